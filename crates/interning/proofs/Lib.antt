@@ -1,0 +1,10 @@
+pub mod Places
+pub mod Interned
+pub mod Walk
+pub mod Grow
+pub mod Slots
+pub mod Writes
+pub mod Sound
+pub mod Decode
+pub mod Distinct
+pub mod Members

@@ -20,7 +20,7 @@ fn digit(letter: u8) -> Option<u8>
 }
 
 // The bytes that a text spells, where it spells any.
-pub fn spelt(heap: Global, text: &str) -> Result<Option<Vec<u8>>, AllocError>
+pub(crate) fn spelt(heap: Global, text: &str) -> Result<Option<Vec<u8>>, AllocError>
     ensures { λ r. ⌜ made r (λ spelt. found spelt (λ v. 2 * vec-len v ≡ length (now (text .entry)))) ⌝ }
 {
     if text.is_empty() {

@@ -49,7 +49,7 @@ pub struct Tally {
 }
 
 impl Tally {
-    pub fn new(heap: Global) -> Tally
+    pub(crate) fn new(heap: Global) -> Tally
         ensures { λ r. ⌜ vec-len (r .findings) ≡ 0 ⌝ }
     {
         Tally {
@@ -70,7 +70,7 @@ impl Tally {
     }
 
     // Counts one more line that cannot be read.
-    pub fn malformed(&mut self) -> Result<(), AllocError>
+    pub(crate) fn malformed(&mut self) -> Result<(), AllocError>
         ensures { λ r. ⌜ made r (λ _. vec-len (now (self .exit) .findings) ≡ vec-len (now (self .entry) .findings) + 1) ⌝ }
     {
         self.lines = self.lines.saturating_add(1);
@@ -78,7 +78,7 @@ impl Tally {
     }
 
     // Counts one more line, by what the press says of its rule and what the reading does.
-    pub fn compare(&mut self, told: Verdict, ours: Verdict) -> Result<(), AllocError>
+    pub(crate) fn compare(&mut self, told: Verdict, ours: Verdict) -> Result<(), AllocError>
         ensures agrees { λ r. ⌜ (told ≡ ours → made r (λ _. vec-len (now (self .exit) .findings) ≡ vec-len (now (self .entry) .findings))) ⌝ }
         ensures differs { λ r. ⌜ ((told ≡ ours → ⊥) → made r (λ _. vec-len (now (self .exit) .findings) ≡ vec-len (now (self .entry) .findings) + 1)) ⌝ }
     {
@@ -98,13 +98,13 @@ impl Tally {
     }
 
     // Whether there are lines, and all agree.
-    pub fn is_clean(&self) -> bool
+    pub(crate) fn is_clean(&self) -> bool
         ensures { λ r. ⌜ Decides r ((0 < now (self .entry) .lines) × (vec-len (now (self .entry) .findings) ≡ 0)) ⌝ }
     {
         self.lines > 0 && self.findings.is_empty()
     }
 
-    pub fn print(&self, rt: &LibcRuntime) -> io::Result<()> {
+    pub(crate) fn print(&self, rt: &LibcRuntime) -> io::Result<()> {
         for (number, count) in self.denied.iter() {
             println!(rt, "denied {number:>2}: {count:>3} agree")?;
         }

@@ -22,7 +22,7 @@ fn rule_of(heap: Global, text: &str) -> Result<Option<Vec<u8>>, AllocError> {
 
 impl Vector {
     // Nothing where the line is malformed.
-    pub fn parse(heap: Global, line: &str) -> Result<Option<Vector>, AllocError> {
+    pub(crate) fn parse(heap: Global, line: &str) -> Result<Option<Vector>, AllocError> {
         let Some((rule, written)) = line.split_once(' ') else {
             return Ok(None);
         };

@@ -14,7 +14,7 @@ pub enum Verdict {
 
 impl Verdict {
     // What the reading says.
-    pub fn of(reading: Result<u32, RuleFault>) -> Verdict
+    pub(crate) fn of(reading: Result<u32, RuleFault>) -> Verdict
         ensures { λ r. ⌜ Cases reading (λ _. r ≡ Verdict.LetIn) (λ fault. r ≡ Verdict.Denied (number-of fault) (place-of fault)) ⌝ }
     {
         match reading {
@@ -27,7 +27,7 @@ impl Verdict {
     }
 
     // What the press says of the rule by what it wrote: a sheet, `no N` or `no N at A`.
-    pub fn told(written: &[u8]) -> Option<Verdict> {
+    pub(crate) fn told(written: &[u8]) -> Option<Verdict> {
         match written.strip_prefix(b"no ") {
             Some(line) => Verdict::denial(from_utf8(line).ok()?),
             None => Some(Verdict::LetIn),

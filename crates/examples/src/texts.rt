@@ -8,7 +8,7 @@ use std::alloc::AllocError;
 use std::alloc::Global;
 
 // `all(` so many times, a member, and as many closing brackets.
-pub fn nested(heap: Global, depth: usize) -> Result<String, AllocError>
+pub(crate) fn nested(heap: Global, depth: usize) -> Result<String, AllocError>
     ensures { λ r. ⌜ made r (λ s. string-len s ≡ 5 * depth + 1) ⌝ }
 {
     let mut text = String::new(heap);
@@ -23,7 +23,7 @@ pub fn nested(heap: Global, depth: usize) -> Result<String, AllocError>
 }
 
 // A word over a list of so many members: 1 to 48, and then from 1 again.
-pub fn listed(heap: Global, word: &str, items: u8) -> Result<String, AllocError> {
+pub(crate) fn listed(heap: Global, word: &str, items: u8) -> Result<String, AllocError> {
     let mut text = format!(heap, "{word}(1")?;
     for item in 1..items {
         let member = item % 48 + 1;
@@ -35,7 +35,7 @@ pub fn listed(heap: Global, word: &str, items: u8) -> Result<String, AllocError>
 }
 
 // The text, with one mark after it up to a length.
-pub fn extended(heap: Global, text: &str, mark: char, len: usize) -> Result<String, AllocError>
+pub(crate) fn extended(heap: Global, text: &str, mark: char, len: usize) -> Result<String, AllocError>
     requires { ⌜ mark < 128 ⌝ }
     ensures { λ r. ⌜ made r (λ s. string-len s ≡ max (length (now (text .entry))) len) ⌝ }
 {

@@ -55,7 +55,7 @@ fn shown(heap: Global, text: &str) -> Result<String, AllocError> {
 }
 
 // Reads the text, and prints its line.
-pub fn show(rt: &LibcRuntime, text: &str, setting: Setting) -> io::Result<()> {
+pub(crate) fn show(rt: &LibcRuntime, text: &str, setting: Setting) -> io::Result<()> {
     let heap = rt.alloc();
     let outcome = outcome(heap, text, setting)?;
     let text = shown(heap, text)?;
@@ -64,7 +64,7 @@ pub fn show(rt: &LibcRuntime, text: &str, setting: Setting) -> io::Result<()> {
 }
 
 // A heading, and under it the line of each text in the usual setting.
-pub fn show_group(rt: &LibcRuntime, heading: &str, texts: &[&str]) -> io::Result<()> {
+pub(crate) fn show_group(rt: &LibcRuntime, heading: &str, texts: &[&str]) -> io::Result<()> {
     rt.println(heading)?;
     for text in texts {
         show(rt, *text, USUAL)?;

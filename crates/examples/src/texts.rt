@@ -35,7 +35,12 @@ pub(crate) fn listed(heap: Global, word: &str, items: u8) -> Result<String, Allo
 }
 
 // The text, with one mark after it up to a length.
-pub(crate) fn extended(heap: Global, text: &str, mark: char, len: usize) -> Result<String, AllocError>
+pub(crate) fn extended(
+    heap: Global,
+    text: &str,
+    mark: char,
+    len: usize,
+) -> Result<String, AllocError>
     requires { ⌜ mark < 128 ⌝ }
     ensures { λ r. ⌜ made r (λ s. string-len s ≡ max (length (now (text .entry))) len) ⌝ }
 {

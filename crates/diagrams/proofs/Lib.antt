@@ -1,0 +1,16 @@
+pub mod NodeTrees
+pub mod GoodTrees
+pub mod Memories
+pub mod Built
+pub mod Opened
+pub mod Counts
+pub mod Reached
+pub mod Marks
+pub mod Moves
+pub mod Refills
+pub mod Collects
+pub mod Firsts
+pub mod Pages
+pub mod FramesKept
+pub mod Begun
+pub mod Sighted

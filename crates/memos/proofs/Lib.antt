@@ -1,0 +1,11 @@
+pub mod Diagrams
+pub mod Questions
+pub mod Joined
+pub mod Noting
+pub mod Noted
+pub mod Paired
+pub mod Halves
+pub mod Arranged
+pub mod Turning
+pub mod Trying
+pub mod Entries

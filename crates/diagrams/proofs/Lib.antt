@@ -14,3 +14,15 @@ pub mod Pages
 pub mod FramesKept
 pub mod Begun
 pub mod Sighted
+pub mod StackLists
+pub mod Settling
+pub mod Scripted
+pub mod Joining
+pub mod Measured
+pub mod Stepping
+pub mod Taking
+pub mod Working
+pub mod Uniquely
+pub mod Tallying
+pub mod Recalling
+pub mod Ending

@@ -6,3 +6,5 @@ pub mod Collecting
 pub mod Listing
 pub mod Asking
 pub mod Frames
+pub mod Stacks
+pub mod Solving

@@ -2,3 +2,4 @@
 mod frames;
 pub mod node;
 pub mod nodes;
+pub mod solve;

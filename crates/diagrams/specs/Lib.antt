@@ -4,6 +4,7 @@ pub mod Building
 pub mod Counting
 pub mod Collecting
 pub mod Listing
+pub mod Avoiding
 pub mod Asking
 pub mod Frames
 pub mod Stacks

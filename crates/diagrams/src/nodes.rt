@@ -10,6 +10,7 @@ use crate::node::Node;
 use crate::node::NodeKey;
 use interning::interner::Interner;
 
+mod avoid;
 mod build;
 mod collect;
 mod count;
@@ -27,3 +28,7 @@ pub struct NodeMemory<'a> {
     ghost rooted: { ∥ Rooted Names-below (held interner) ∥₁ },
     ghost good: { ∥ Each Proper (decode node-tree (held interner)) ∥₁ },
 }
+
+// Fewer cells than nodes are lent.
+#[derive(Clone, Copy)]
+pub struct TooFewCells;

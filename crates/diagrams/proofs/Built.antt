@@ -1,5 +1,5 @@
 -- Building: a node that is interned is the tree over its parts, and the memory stays one of trees of families.
-use Rattle.std.proofs.Common.{◌≡◌, ℕ, ◌+◌, ◌^◌, ◌<◌, ◌≤◌, false, ◌⊎◌, List, [], length, Some, None, Ok, Err, Option, Result, sym, refl, ap, ◌∙◌, subst, inl, inr, ⊎_elim, not-suc-le-zero, arith, MatchOption}
+use Rattle.std.proofs.Common.{◌≡◌, ℕ, ◌+◌, ◌^◌, ◌<◌, ◌≤◌, false, List, [], length, Some, None, Ok, Err, Option, Result, sym, refl, ap, ◌∙◌, subst, inl, inr, ⊎_elim, not-suc-le-zero, arith, MatchOption}
 use Rattle.std.specs.Option.{ok_or}
 use Rattle.interning.specs.declared.interner.Full.{Full}
 use Rattle.interning.specs.Decode.{Rooted, decode}

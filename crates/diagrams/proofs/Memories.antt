@@ -11,7 +11,7 @@ use Rattle.memos.specs.declared.diagram.Diagram.{Diagram}
 use Rattle.memos.specs.declared.diagram.View.{View}
 use Rattle.memos.specs.declared.diagram.View.TheVariants.{None, Always, Node as Place}
 use Rattle.memos.specs.Diagrams.{seen}
-use Rattle.families.specs.Trees.{Tree, none, node}
+use Rattle.families.specs.Trees.{Tree, none}
 use Rattle.families.specs.Good.{Good, Proper}
 use Rattle.diagrams.specs.declared.node.Node.{Node}
 use Rattle.diagrams.specs.declared.nodes.NodeMemory.{NodeMemory}

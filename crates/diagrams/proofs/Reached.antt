@@ -1,5 +1,5 @@
 -- The nodes in the trees of roots: with a node, those in its two parts.
-use Rattle.std.proofs.Common.{ℕ, zero, suc, ◌<◌, false, ◌⊎◌, List, [], ◌∷◌, length, get_or, refl, subst, inl, inr, ⊎_elim, le_of_suc-le-suc, not-suc-le-zero, arith}
+use Rattle.std.proofs.Common.{ℕ, zero, suc, ◌<◌, List, [], ◌∷◌, length, get_or, refl, subst, inl, inr, ⊎_elim, le_of_suc-le-suc, not-suc-le-zero, arith}
 use Rattle.std.proofs.lemmas.Bool.{true≢false}
 use Rattle.interning.specs.Distinct.{◌∈◌, Within}
 use Rattle.interning.proofs.Members.{in_left, in_right, in_either}

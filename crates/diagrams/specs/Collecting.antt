@@ -1,5 +1,5 @@
 -- Throwing out: what given roots reach, and what is held when everything else is thrown out.
-use Rattle.std.specs.Prelude.{◌≡◌, ℕ, ◌<◌, ◌≤◌, Bool, true, false, List, [], ◌∷◌, ◌++◌, length, get_or, take, set, slice_index_or, slice_set}
+use Rattle.std.specs.Prelude.{◌≡◌, ℕ, ◌<◌, ◌≤◌, Bool, true, false, List, [], ◌∷◌, ◌++◌, length, get_or, take, slice_index_or, slice_set}
 use Rattle.interning.specs.Decode.{decode}
 use Rattle.interning.specs.Distinct.{◌∈◌, Within}
 use Rattle.memos.specs.declared.diagram.Diagram.{Diagram}

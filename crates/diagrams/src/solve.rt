@@ -62,13 +62,13 @@ fn put<M: Memo>(
     opened: &mut u64,
     question: Question,
 ) -> Step
-    requires notes { AllRight (trees nodes.now) (notes memo.old) }
-    requires closed { keeps memo.old → Closed (trees nodes.now) (notes memo.old) }
+    requires notes { AllRight (trees nodes.now) (M.Memo.notes memo.old) }
+    requires closed { M.Memo.keeps memo.old → Closed (trees nodes.now) (M.Memo.notes memo.old) }
     requires puttable { Puttable (trees nodes.now) (length (pending stack.old)) question }
-    ensures notes { notes memo.new ≡ notes memo.old }
-    ensures counts { CountsOn (keeps memo.old) (keeps memo.new) (trees nodes.now) (notes memo.old) (trees nodes.now) (notes memo.new) (ask_at (trees nodes.now) question) (pending stack.old) (pending stack.old) (pending stack.new) opened.old opened.new }
-    ensures already { keeps memo.new → keeps memo.old }
-    ensures steps { Steps (trees nodes.now) (told (keeps memo.old) (trees nodes.now) (notes memo.old)) (trees nodes.now) (told (keeps memo.new) (trees nodes.now) (notes memo.new)) (ask_at (trees nodes.now) question) (pending stack.old) (pending stack.new) (load (pending stack.old) (Asking question)) result }
+    ensures notes { M.Memo.notes memo.new ≡ M.Memo.notes memo.old }
+    ensures counts { CountsOn (M.Memo.keeps memo.old) (M.Memo.keeps memo.new) (trees nodes.now) (M.Memo.notes memo.old) (trees nodes.now) (M.Memo.notes memo.new) (ask_at (trees nodes.now) question) (pending stack.old) (pending stack.old) (pending stack.new) opened.old opened.new }
+    ensures already { M.Memo.keeps memo.new → M.Memo.keeps memo.old }
+    ensures steps { Steps (trees nodes.now) (told (M.Memo.keeps memo.old) (trees nodes.now) (M.Memo.notes memo.old)) (trees nodes.now) (told (M.Memo.keeps memo.new) (trees nodes.now) (M.Memo.notes memo.new)) (ask_at (trees nodes.now) question) (pending stack.old) (pending stack.new) (load (pending stack.old) (Asking question)) result }
 {
     if let Some(answer) = frames::sight(nodes, question) {
         return Step::Answer(answer);
@@ -93,15 +93,15 @@ fn take<M: Memo>(
     newest: Pending,
     answer: Diagram,
 ) -> Result<Step, Full>
-    requires notes { AllRight (trees nodes.old) (notes memo.old) }
-    requires closed { keeps memo.old → Closed (trees nodes.old) (notes memo.old) }
-    requires due { Due (trees nodes.old) (told (keeps memo.old) (trees nodes.old) (notes memo.old)) (length (pending stack.old)) newest answer }
-    ensures notes { AllRight (trees nodes.new) (notes memo.new) }
+    requires notes { AllRight (trees nodes.old) (M.Memo.notes memo.old) }
+    requires closed { M.Memo.keeps memo.old → Closed (trees nodes.old) (M.Memo.notes memo.old) }
+    requires due { Due (trees nodes.old) (told (M.Memo.keeps memo.old) (trees nodes.old) (M.Memo.notes memo.old)) (length (pending stack.old)) newest answer }
+    ensures notes { AllRight (trees nodes.new) (M.Memo.notes memo.new) }
     ensures grows { Grows (trees nodes.old) (trees nodes.new) (ask_at (trees nodes.old) newest.question) }
-    ensures counts { OnOk result (((n : ℕ) → CountsOn (keeps memo.old) (keeps memo.new) (trees nodes.old) (notes memo.old) (trees nodes.new) (notes memo.new) (ask_at (trees nodes.old) newest.question) (pending stack.old) (newest ∷ pending stack.old) (pending stack.new) n n)) }
-    ensures already { keeps memo.new → keeps memo.old }
-    ensures closed { keeps memo.new → Closed (trees nodes.new) (notes memo.new) }
-    ensures takes { Takes (places nodes.old) (trees nodes.old) (told (keeps memo.old) (trees nodes.old) (notes memo.old)) (trees nodes.new) (told (keeps memo.new) (trees nodes.new) (notes memo.new)) (ask_at (trees nodes.old) newest.question) (pending stack.old) (pending stack.new) (load (newest ∷ pending stack.old) (Answering answer)) result }
+    ensures counts { OnOk result (((n : ℕ) → CountsOn (M.Memo.keeps memo.old) (M.Memo.keeps memo.new) (trees nodes.old) (M.Memo.notes memo.old) (trees nodes.new) (M.Memo.notes memo.new) (ask_at (trees nodes.old) newest.question) (pending stack.old) (newest ∷ pending stack.old) (pending stack.new) n n)) }
+    ensures already { M.Memo.keeps memo.new → M.Memo.keeps memo.old }
+    ensures closed { M.Memo.keeps memo.new → Closed (trees nodes.new) (M.Memo.notes memo.new) }
+    ensures takes { Takes (places nodes.old) (trees nodes.old) (told (M.Memo.keeps memo.old) (trees nodes.old) (M.Memo.notes memo.old)) (trees nodes.new) (told (M.Memo.keeps memo.new) (trees nodes.new) (M.Memo.notes memo.new)) (ask_at (trees nodes.old) newest.question) (pending stack.old) (pending stack.new) (load (newest ∷ pending stack.old) (Answering answer)) result }
     ensures places { places nodes.new ≡ places nodes.old }
     ensures named { nodes.new.interner.slots.ghost_name ≡ nodes.old.interner.slots.ghost_name }
 {
@@ -124,14 +124,14 @@ fn take<M: Memo>(
 
 // Works a question out: sight first, then the memo, else it is opened; every answered question that was opened is noted.
 pub fn solve<M: Memo>(nodes: &mut NodeMemory<'_>, memo: &mut M, question: Question) -> Solved
-    requires notes { AllRight (trees nodes.old) (notes memo.old) }
-    requires closed { keeps memo.old → Closed (trees nodes.old) (notes memo.old) }
+    requires notes { AllRight (trees nodes.old) (M.Memo.notes memo.old) }
+    requires closed { M.Memo.keeps memo.old → Closed (trees nodes.old) (M.Memo.notes memo.old) }
     requires asks { (q : Asked) × Asks (trees nodes.old) question q × GoodAsk 1 q }
     ensures answer { (q : Asked) → Asks (trees nodes.old) question q → WorkedOut (places nodes.old) (trees nodes.old) (trees nodes.new) q result.answer }
-    ensures opened { keeps memo.new → (q : Asked) → Asks (trees nodes.old) question q → TalliedOut (trees nodes.old) (notes memo.old) q result.answer result.opened }
-    ensures closed { keeps memo.new → Closed (trees nodes.new) (notes memo.new) }
+    ensures opened { M.Memo.keeps memo.new → (q : Asked) → Asks (trees nodes.old) question q → TalliedOut (trees nodes.old) (M.Memo.notes memo.old) q result.answer result.opened }
+    ensures closed { M.Memo.keeps memo.new → Closed (trees nodes.new) (M.Memo.notes memo.new) }
     ensures grows { (q : Asked) → Asks (trees nodes.old) question q → Grows (trees nodes.old) (trees nodes.new) q }
-    ensures notes { AllRight (trees nodes.new) (notes memo.new) }
+    ensures notes { AllRight (trees nodes.new) (M.Memo.notes memo.new) }
     ensures places { places nodes.new ≡ places nodes.old }
     ensures named { nodes.new.interner.slots.ghost_name ≡ nodes.old.interner.slots.ghost_name }
 {

@@ -1,5 +1,5 @@
 -- What a memo's promise of a note comes to. Assumes nothing.
-use Rattle.std.proofs.Common.{◌≡◌, ◌+◌, true, ◌⊎◌, List, ◌++◌, is_some, Some, None, Option, sym, refl, subst, inl, inr, ⊎_elim}
+use Rattle.std.proofs.Common.{◌≡◌, true, List, ◌++◌, is_some, Some, None, Option, sym, refl, subst, inl, inr, ⊎_elim}
 use Rattle.interning.specs.Distinct.{◌∈◌}
 use Rattle.memos.specs.declared.diagram.Diagram.{Diagram}
 use Rattle.memos.specs.declared.question.Question.{Question}

@@ -1,4 +1,6 @@
 //! Memos: what answers to questions on diagrams are held in, so that a question need not be opened twice.
+#![tactic(auto)]
+
 pub mod diagram;
 mod half;
 pub mod keeping;

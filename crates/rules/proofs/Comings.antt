@@ -1,5 +1,5 @@
 -- What a text comes to, from what its tokens come to.
-use Rattle.std.proofs.Common.{◌≡◌, ℕ, ◌<◌, ◌≤◌, Bool, true, false, cond, leb, List, length, Ok, Err, Result, sym, refl, ap, ◌∙◌, subst, arith}
+use Rattle.std.proofs.Common.{◌≡◌, ℕ, ◌<◌, ◌≤◌, true, false, leb, List, length, Ok, Err, Result, sym, refl, subst, arith}
 use Rattle.std.proofs.lemmas.Bool.{cond-true, cond-false, le-leb, lt-leb}
 use Rattle.interning.proofs.Distinct.{counted}
 use Rattle.rules.specs.declared.faults.RuleFault.{RuleFault}
@@ -7,7 +7,7 @@ use Rattle.rules.specs.declared.faults.RuleFault.TheVariants.{Length, Terms as T
 use Rattle.rules.specs.declared.terms.TermMemory.{TermMemory}
 use Rattle.rules.specs.Building.{Held, different}
 use Rattle.rules.specs.Memory.{view}
-use Rattle.rules.specs.Outcome.{placed, outcome, Holds, Comes, Off, ReadOff}
+use Rattle.rules.specs.Outcome.{placed, outcome, Comes, Off, ReadOff}
 use Rattle.rules.specs.Reading.{reading, run, start}
 use Rattle.rules.specs.Rules.{Rule}
 use Rattle.rules.specs.Terms.{Term, expand, subterms}

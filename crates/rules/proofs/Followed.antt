@@ -5,14 +5,14 @@ use Rattle.std.proofs.lemmas.Bool.{eqb-false}
 use Rattle.interning.specs.Distinct.{distinct}
 use Rattle.interning.proofs.Distinct.{counted, distinct_adds_none, distinct_once}
 use Rattle.rules.specs.declared.reader.Wants.{Wants}
-use Rattle.rules.specs.declared.reader.Wants.TheVariants.{Item, Figure as WantsFigure, Bracket as WantsBracket, Nothing}
+use Rattle.rules.specs.declared.reader.Wants.TheVariants.{Item, Bracket as WantsBracket, Nothing}
 use Rattle.rules.specs.declared.words.Head.{Head}
 use Rattle.rules.specs.Building.{Held, At, AllAt, Within, Adds, Makes, different}
-use Rattle.rules.specs.Following.{Waits, LevelStands, LevelsStand, items_terms, frames_terms, state_terms, Follows, Steps, Joined, AtItem}
-use Rattle.rules.specs.Levels.{Level, added, crowded as crowded_levels}
+use Rattle.rules.specs.Following.{LevelStands, LevelsStand, items_terms, frames_terms, Follows, Joined, AtItem}
+use Rattle.rules.specs.Levels.{Level, crowded as crowded_levels}
 use Rattle.rules.specs.Members.{◌∈◌, ◌⊆◌}
-use Rattle.rules.specs.Progress.{FramesGood, StageGood}
-use Rattle.rules.specs.Reading.{Frame, State, wants_item, wants_bracket, finished, crowded, joined, items_of, fits}
+use Rattle.rules.specs.Progress.{FramesGood}
+use Rattle.rules.specs.Reading.{Frame, wants_bracket, crowded, joined, items_of, fits}
 use Rattle.rules.specs.Rules.{Rule, list}
 use Rattle.rules.specs.Spelling.{Figure, InOrder}
 use Rattle.rules.specs.Terms.{Term, same, expand, expanded, expand_list, subterms}

@@ -1,8 +1,7 @@
 -- A term memory holds different terms, no more than it has places, and with a term all terms in it.
-use Rattle.std.proofs.Common.{◌≡◌, ℕ, zero, suc, ◌<◌, ◌≤◌, List, [], ◌∷◌, ◌++◌, length, get_or, sym, refl, ap, ◌∙◌, subst, ⊎_elim, arith}
-use Rattle.interning.specs.Decode.{decode}
-use Rattle.interning.specs.Model.{held, capacity}
-use Rattle.interning.specs.Places.{Apart, Stands}
+use Rattle.std.proofs.Common.{◌≡◌, ℕ, zero, suc, ◌<◌, ◌≤◌, length, get_or, sym, subst, ⊎_elim, arith}
+use Rattle.interning.specs.Model.{held}
+use Rattle.interning.specs.Places.{Apart}
 use Rattle.interning.proofs.Decode.{decode_apart, decode_at, length_decode}
 use Rattle.interning.proofs.Sound.{held_apart, held_fits}
 use Rattle.rules.specs.declared.terms.TermKey.{TermKey}
@@ -11,7 +10,7 @@ use Rattle.rules.specs.declared.terms.TermMemory.{TermMemory}
 use Rattle.rules.specs.Members.{◌∈◌, ◌⊆◌}
 use Rattle.rules.specs.Memory.{view}
 use Rattle.rules.specs.TermKeys.{NamesBelow, tree}
-use Rattle.rules.specs.Terms.{Term, blank, member, both, either, subterms}
+use Rattle.rules.specs.Terms.{Term, blank, subterms}
 use Rattle.interning.proofs.Members.{in_either, in_stands}
 use Rattle.rules.proofs.Entries.{in_from_place}
 use Rattle.rules.proofs.TermTrees.{readable, rooted_out}

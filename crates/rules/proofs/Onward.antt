@@ -1,5 +1,5 @@
 -- The reading goes on: token by token, what is still to be read gives what the whole text gives.
-use Rattle.std.proofs.Common.{◌≡◌, ℕ, ◌<◌, ◌≤◌, Bool, true, false, List, [], ◌∷◌, length, Some, None, Ok, Err, Option, Result, sym, refl, ap, ◌∙◌, subst, arith}
+use Rattle.std.proofs.Common.{◌≡◌, ℕ, false, List, [], ◌∷◌, length, Some, None, Ok, Err, Result, sym, refl, ap, ◌∙◌, subst, arith}
 use Rattle.rules.specs.declared.faults.RuleFault.{RuleFault}
 use Rattle.rules.specs.declared.faults.RuleFault.TheVariants.{Text, Token as Unfit}
 use Rattle.rules.specs.declared.faults.TextFault.{TextFault}
@@ -12,7 +12,6 @@ use Rattle.rules.specs.Levels.{Level}
 use Rattle.rules.specs.Members.{◌∈◌}
 use Rattle.rules.specs.Outcome.{Off, ReadOff}
 use Rattle.rules.specs.Reading.{State, Stage, Frame, start, step, finish, run, wants_item, wants_figure, wants_bracket, finished}
-use Rattle.rules.specs.Rules.{Rule}
 use Rattle.rules.specs.Scanning.{first, rest, ahead}
 use Rattle.rules.specs.Tokens.{Lexeme, lexemes}
 

@@ -1,10 +1,10 @@
 -- A term that is interned is made: it stands at its place, and where it found none there are too many terms.
-use Rattle.std.proofs.Common.{◌≡◌, ℕ, ◌<◌, ◌≤◌, Bool, true, false, ◌⊎◌, List, [], ◌∷◌, ◌++◌, length, sym, refl, ap, ◌∙◌, subst, inl, inr, ⊎_elim, arith}
+use Rattle.std.proofs.Common.{◌≡◌, ℕ, Bool, true, false, List, [], ◌∷◌, sym, refl, ◌∙◌, subst, ⊎_elim, arith}
 use Rattle.std.proofs.lemmas.Bool.{true≢false, false≢true}
 use Rattle.interning.specs.Interned.{Placed, Refused, Appended}
-use Rattle.interning.specs.Places.{Absent, Apart, Stands, Kept}
+use Rattle.interning.specs.Places.{Apart, Kept}
 use Rattle.interning.proofs.Distinct.{counted}
-use Rattle.rules.specs.Building.{Held, At, Within, Adds, Makes, different}
+use Rattle.rules.specs.Building.{Held, At, Within, Makes}
 use Rattle.rules.specs.Members.{◌∈◌, ◌⊆◌}
 use Rattle.rules.specs.Terms.{Term, same, subterms}
 use Rattle.interning.proofs.Members.{absent_not_in, apart_once, in_either}

@@ -1,8 +1,8 @@
 -- Each way of a step of the reader is the way of the reading's step.
-use Rattle.std.proofs.Common.{◌≡◌, ℕ, ◌<◌, ◌≤◌, Bool, true, false, cond, eqb, leb, List, [], ◌∷◌, ◌++◌, length, Some, None, Ok, Err, Option, Result, sym, refl, ap, ◌∙◌, subst, arith}
+use Rattle.std.proofs.Common.{◌≡◌, ℕ, ◌<◌, ◌≤◌, Bool, true, false, cond, eqb, leb, List, [], ◌∷◌, length, Some, None, Ok, Err, Result, sym, refl, ap, ◌∙◌, subst, arith}
 use Rattle.std.proofs.lemmas.Bool.{cond-true, cond-false, eq-eqb, ne_eqb, le-leb, lt-leb}
 use Rattle.rules.specs.declared.faults.RuleFault.{RuleFault}
-use Rattle.rules.specs.declared.faults.RuleFault.TheVariants.{Token as Unfit, Depth, Range, Shape}
+use Rattle.rules.specs.declared.faults.RuleFault.TheVariants.{Token as Unfit, Depth, Shape}
 use Rattle.rules.specs.declared.reader.Wants.{Wants}
 use Rattle.rules.specs.declared.reader.Wants.TheVariants.{Item, Bracket as WantsBracket}
 use Rattle.rules.specs.declared.tokens.Kind.{Kind}
@@ -12,7 +12,7 @@ use Rattle.rules.specs.declared.words.Word.{Word}
 use Rattle.rules.specs.Building.{Held, AllAt, Makes}
 use Rattle.rules.specs.Following.{Follows, Steps, Joined, AtItem, after, frames_terms}
 use Rattle.rules.specs.Levels.{Level, crowded as crowded_levels}
-use Rattle.rules.specs.Reading.{Frame, State, wants_item, wants_bracket, crowded, joined, after_word, close, at_item, at_bracket, in_range, items_of, fits}
+use Rattle.rules.specs.Reading.{Frame, State, wants_bracket, crowded, after_word, close, at_item, at_bracket, in_range, fits}
 use Rattle.rules.specs.Rules.{Rule}
 use Rattle.rules.specs.Spelling.{Figure}
 use Rattle.rules.specs.Terms.{Term, expand_list, member, subterms}

@@ -1,5 +1,5 @@
 -- Keys of terms can be told by the terms that they stand for.
-use Rattle.std.proofs.Common.{◌≡◌, ℕ, ◌<◌, ◌≤◌, List, [], ◌∷◌, ◌++◌, length, get_or, sym, refl, ap, ◌∙◌, subst, ⊎_elim, not-suc-le-zero, arith}
+use Rattle.std.proofs.Common.{◌≡◌, ℕ, ◌≤◌, List, [], ◌++◌, length, get_or, sym, refl, subst, ⊎_elim, not-suc-le-zero, arith}
 use mathlib.Core.HLevel.{×_prop}
 use mathlib.Core.Logic.{∥∥₁_elim}
 use native.Mathlib.Bridge.{le_prop}
@@ -12,7 +12,7 @@ use Rattle.interning.proofs.Places.{apart_told}
 use Rattle.rules.specs.declared.terms.TermKey.{TermKey}
 use Rattle.rules.specs.declared.terms.TermKey.TheVariants.{Member, Both, Either}
 use Rattle.rules.specs.TermKeys.{NamesBelow, tree}
-use Rattle.rules.specs.Terms.{Term, member, both, either, blank}
+use Rattle.rules.specs.Terms.{Term, both, either, blank}
 
 names_prop : (n : ℕ) (k : TermKey) → IsProp (NamesBelow n k)
 names_prop n (Member v) = λ x y. refl

@@ -1,5 +1,5 @@
 -- What a term memory holds, and how terms are made in it.
-use Rattle.std.specs.Prelude.{◌≡◌, ℕ, ◌<◌, ◌≤◌, Bool, true, false, List, [], ◌∷◌, length}
+use Rattle.std.specs.Prelude.{◌≡◌, ℕ, ◌<◌, Bool, true, false, List, [], ◌∷◌, length}
 use Rattle.interning.specs.Distinct.{distinct}
 use Rattle.interning.specs.Places.{Stands}
 use Rattle.rules.specs.Terms.{Term, subterms, same}

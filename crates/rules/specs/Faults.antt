@@ -3,7 +3,6 @@ use Rattle.std.specs.Prelude.{ℕ, Some, None, Option}
 use Rattle.rules.specs.declared.faults.Layer.{Layer}
 use Rattle.rules.specs.declared.faults.RuleFault.{RuleFault}
 use Rattle.rules.specs.declared.faults.RuleFault.TheVariants.{Length, Text, Token, Depth, Range, Shape, Terms}
-use Rattle.rules.specs.declared.faults.TextFault.{TextFault}
 use Rattle.rules.specs.declared.faults.TextFault.TheVariants.{Byte, Word}
 
 -- the number of the question that was answered no

@@ -1,5 +1,5 @@
 -- A rule, and the groups that pass it.
-use Rattle.std.specs.Prelude.{ℕ, zero, suc, ◌+◌, ◌/◌, Bool, true, false, cond, ◌&&◌, ◌||◌, List, [], ◌∷◌, map, length, take, drop, nat_le}
+use Rattle.std.specs.Prelude.{ℕ, zero, suc, ◌/◌, Bool, true, false, cond, ◌&&◌, ◌||◌, List, [], ◌∷◌, map, length, take, drop, nat_le}
 use Rattle.rules.specs.declared.words.Head.{Head}
 use Rattle.rules.specs.declared.words.Head.TheVariants.{All, Any, Least, Grid}
 

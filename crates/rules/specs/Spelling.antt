@@ -1,5 +1,5 @@
 -- Which tokens spell a rule, and when a rule is in order. This is the language of rules, said without any reading of it.
-use Rattle.std.specs.Prelude.{◌≡◌, ℕ, suc, ◌<◌, ◌≤◌, true, List, [], ◌∷◌, ◌++◌, map, Ok, Err}
+use Rattle.std.specs.Prelude.{◌≡◌, ℕ, suc, ◌<◌, ◌≤◌, true, List, [], ◌∷◌, ◌++◌, Ok, Err}
 use Rattle.rules.specs.declared.tokens.Kind.{Kind}
 use Rattle.rules.specs.declared.tokens.Kind.TheVariants.{Number, Word, Open, Close}
 use Rattle.rules.specs.declared.words.Head.{Head}

@@ -1,5 +1,5 @@
 -- The terms that a rule expands to.
-use Rattle.std.specs.Prelude.{ℕ, suc, ◌-◌, Bool, true, false, cond, ◌&&◌, ◌||◌, List, [], ◌∷◌, ◌++◌, map, length, ◌==◌}
+use Rattle.std.specs.Prelude.{ℕ, suc, ◌-◌, Bool, false, cond, ◌&&◌, ◌||◌, List, [], ◌∷◌, ◌++◌, map, length, ◌==◌}
 use Rattle.rules.specs.declared.words.Head.{Head}
 use Rattle.rules.specs.declared.words.Head.TheVariants.{All, Any, Least, Grid}
 use Rattle.rules.specs.Rules.{Rule, Items, none, item, list, Group, rows}

@@ -1,4 +1,6 @@
 //! Rules as they are written: bytes, tokens, the rule that they spell, and the terms that it expands to.
+#![tactic(auto)]
+
 mod classes;
 mod expand;
 pub mod faults;

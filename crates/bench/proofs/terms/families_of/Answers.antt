@@ -12,11 +12,11 @@ use Rattle.bench.proofs.terms.families_of.Goals as goal
 pub loop-place-init : goal.loop-place-init
 loop-place-init g c = (refl, refl, c.requires.sane, done_none _ _ _ _, λ p l. absurd (omega arith))
 
-pub loop-place-preserved-in-default : goal.loop-place-preserved-in-default
-loop-place-preserved-in-default g c = absurd (omega (arith, c.in-default.ensures, c.loop-place-test.true, c.len-place-end.ensures, length_decode tree (held c.args.terms.now.interner)))
+pub loop-place-preserved-in_default : goal.loop-place-preserved-in_default
+loop-place-preserved-in_default g c = absurd (omega (arith, c.in_default.ensures, c.loop-place-test.true, c.len-place-end.ensures, length_decode tree (held c.args.terms.now.interner)))
 
-pub family-of-requires : goal.family-of-requires
-family-of-requires g c =
+pub family_of-requires : goal.family_of-requires
+family_of-requires g c =
     let m = c.args.terms.now in
     let p = c.loop-place.place in
     let i = c.loop-place.invariant in
@@ -25,17 +25,17 @@ family-of-requires g c =
       ready = ((view m).terms, key_ready m p c.in-Some.key c.in-Some.ensures (trees c.loop-place.nodes) c.loop-place.families i.4 (c.requires.members p (omega (arith, c.len-place-end.ensures, c.loop-place-test.true))));
     }
 
-pub returns-in-err-family : goal.returns-in-err-family
-returns-in-err-family g c =
+pub returns-in_err-family : goal.returns-in_err-family
+returns-in_err-family g c =
     let m = c.args.terms.now in
     let p = c.loop-place.place in
     let i = c.loop-place.invariant in
     let ts = trees c.loop-place.nodes in
     let ready = key_ready m p c.in-Some.key c.in-Some.ensures ts c.loop-place.families i.4 (c.requires.members p (omega (arith, c.len-place-end.ensures, c.loop-place-test.true))) in
-    let s = c.in-err-family.ensures in
+    let s = c.in_err-family.ensures in
     record {
       sane = s.sane;
-      works = works_all_err _ _ _ _ _ _ _ (view m).terms c.loop-place.families c.args.opened.now c.family-of.new.opened c.from-residual.result c.from-residual.ensures.0 (step_short m p c.in-Some.key c.in-Some.ensures _ _ _ _ _ _ _ _ i.3 _ _ _ (short_cap _ _ i.0 _ _ _ _ _ (s.works (view m).terms ready)));
+      works = works_all_err _ _ _ _ _ _ _ (view m).terms c.loop-place.families c.args.opened.now c.family_of.new.opened c.from_residual.result c.from_residual.ensures.0 (step_short m p c.in-Some.key c.in-Some.ensures _ _ _ _ _ _ _ _ i.3 _ _ _ (short_cap _ _ i.0 _ _ _ _ _ (s.works (view m).terms ready)));
       places = s.places ∙ i.0;
       named = s.named ∙ i.1;
     }
@@ -48,13 +48,13 @@ loop-place-preserved g c =
     let ts = trees c.loop-place.nodes in
     let inside : p < length (view m).terms = omega (arith, c.len-place-end.ensures, c.loop-place-test.true) in
     let ready = key_ready m p c.in-Some.key c.in-Some.ensures ts c.loop-place.families i.4 (c.requires.members p inside) in
-    let s = c.in-ok-family.ensures in
+    let s = c.in_ok-family.ensures in
     let w = s.works (view m).terms ready in (
       s.places ∙ i.0,
       s.named ∙ i.1,
       s.sane,
-      step_done m p c.in-Some.key c.in-Some.ensures _ _ _ _ _ _ _ _ i.3 _ _ _ _ c.in-ok-family.family w,
-      step_known m p c.in-Some.key c.in-Some.ensures ts _ c.loop-place.families c.in-ok-family.family w.done.kept (omega (arith, c.requires.room, c.loop-place.auto.families)) i.4 w.denotes,
+      step_done m p c.in-Some.key c.in-Some.ensures _ _ _ _ _ _ _ _ i.3 _ _ _ _ c.in_ok-family.family w,
+      step_known m p c.in-Some.key c.in-Some.ensures ts _ c.loop-place.families c.in_ok-family.family w.done.kept (omega (arith, c.requires.room, c.loop-place.auto.families)) i.4 w.denotes,
     )
 
 pub returns : goal.returns

@@ -13,7 +13,7 @@ returns g c =
     let s = c.solve-solved.ensures in
     record {
       sane = record { right = s.notes; closed = s.closed };
-      works = λ q a. asked_works _ _ _ _ _ _ _ q c.solve-solved.result.answer c.solve-solved.result.opened c.args.opened.now _ (s.answer q a) (s.grows q a) s.already (λ k. s.opened k q a) c.saturating-add.ensures;
+      works = λ q a. asked_works _ _ _ _ _ _ _ q c.solve-solved.result.answer c.solve-solved.result.opened c.args.opened.now _ (s.answer q a) (s.grows q a) s.already (λ k. s.opened k q a) c.saturating_add.ensures;
       places = s.places;
       named = s.named;
     }

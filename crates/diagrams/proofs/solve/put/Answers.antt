@@ -48,7 +48,7 @@ pub push-requires : goal.push-requires
 push-requires g c =
     let ts = trees c.args.nodes.now in
     let a = c.requires.puttable in
-    let unseen : sight a.this ≡ opens = seen_none ts (sight a.this) (c.in-default.ensures a.this a.asks) in
+    let unseen : sight a.this ≡ opens = seen_none ts (sight a.this) (c.in_default.ensures a.this a.asks) in
     (put_deep ts c.args.question (length (pending c.args.stack.now)) a unseen).1
 
 pub returns : goal.returns
@@ -62,13 +62,13 @@ returns g c =
     let K' = g.M.Memo.keeps c.recall.new.self in
     let ns = g.M.Memo.notes c.args.memo.now in
     let ns' = g.M.Memo.notes c.recall.new.self in
-    let unseen : sight a.this ≡ opens = seen_none (trees m) (sight a.this) (c.in-default.ensures a.this a.asks) in
-    let missed = c.in-default-recall.ensures.recalled in
+    let unseen : sight a.this ≡ opens = seen_none (trees m) (sight a.this) (c.in_default.ensures a.this a.asks) in
+    let missed = c.in_default-recall.ensures.recalled in
     let begun = c.begin-wait.ensures in
     let x : Pending = record { question = q; frame = c.begin-wait.result.frame } in
     record {
       notes = missed.notes;
-      counts = opened_counts K K' m ns ns' q x xs ys a unseen missed c.args.opened.now c.saturating-add.result c.saturating-add.ensures refl c.push.ensures;
+      counts = opened_counts K K' m ns ns' q x xs ys a unseen missed c.args.opened.now c.saturating_add.result c.saturating_add.ensures refl c.push.ensures;
       already = missed.already;
       steps = put_opens (trees m) (told K (trees m) ns) (told K' (trees m) ns') (recalled_more K K' m ns ns' q _ missed) q xs ys a unseen c.begin-wait.result begun.few (begun.waits a.this a.asks unseen) c.push.ensures;
     }

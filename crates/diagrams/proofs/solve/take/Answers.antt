@@ -26,8 +26,8 @@ join-requires g c =
     let b = c.in-Done.ensures.continues ts due.pends.then (answer due.next) due.pends.awaits due.arrives.settled.denotes in
     record { fitting = take_fitting ts T (pending c.args.stack.now) c.args.newest c.args.answer due c.in-Done.member c.in-Done.low c.in-Done.high b }
 
-pub returns-in-err-built : goal.returns-in-err-built
-returns-in-err-built g c =
+pub returns-in_err-built-in-Done : goal.returns-in_err-built-in-Done
+returns-in_err-built-in-Done g c =
     let ts = trees c.args.nodes.now in
     let ts' = trees c.join.new.nodes in
     let K = g.M.Memo.keeps c.args.memo.now in
@@ -36,15 +36,15 @@ returns-in-err-built g c =
     let x = c.args.newest in
     let due = c.requires.due in
     let b = c.in-Done.ensures.continues ts due.pends.then (answer due.next) due.pends.awaits due.arrives.settled.denotes in
-    let joined = c.in-err-built.ensures in
+    let joined = c.in_err-built-in-Done.ensures in
     let lacks = take_lacks ts (told K ts ns) xs x c.args.answer due c.in-Done.member c.in-Done.low c.in-Done.high b (places c.args.nodes.now) ts' (joined.joins b.low_tree b.high_tree b.low_is b.high_is) in
     record {
       notes = subst (λ us. AllRight us ns) (sym lacks.same) c.requires.notes;
       grows = grows_none ts ts' (ask_at ts x.question) lacks.same;
-      counts = MatchResult-from_err c.from-residual.result _ _ c.from-residual.ensures.0 (λ _. tt);
+      counts = MatchResult-from_err c.from_residual.result _ _ c.from_residual.ensures.0 (λ _. tt);
       already = λ k. k;
       closed = λ k. subst (λ us. Closed us ns) (sym lacks.same) (c.requires.closed k);
-      takes = takes_err (places c.args.nodes.now) ts ts' (told K ts ns) (told K ts' ns) (ask_at ts x.question) xs xs _ c.from-residual.result c.from-residual.ensures.0 lacks;
+      takes = takes_err (places c.args.nodes.now) ts ts' (told K ts ns) (told K ts' ns) (ask_at ts x.question) xs xs _ c.from_residual.result c.from_residual.ensures.0 lacks;
       places = joined.places;
       named = joined.named;
     }
@@ -72,8 +72,8 @@ returns-in-Wait g c =
       named = refl;
     }
 
-pub returns-in-ok-built : goal.returns-in-ok-built
-returns-in-ok-built g c =
+pub returns-in_ok-built-in-Done : goal.returns-in_ok-built-in-Done
+returns-in_ok-built-in-Done g c =
     let ts = trees c.args.nodes.now in
     let ts' = trees c.join.new.nodes in
     let K = g.M.Memo.keeps c.args.memo.now in
@@ -87,8 +87,8 @@ returns-in-ok-built g c =
     let low = c.in-Done.low in
     let high = c.in-Done.high in
     let b = c.in-Done.ensures.continues ts due.pends.then (answer due.next) due.pends.awaits due.arrives.settled.denotes in
-    let joined = c.in-ok-built.ensures in
-    let d = c.in-ok-built.built in
+    let joined = c.in_ok-built-in-Done.ensures in
+    let d = c.in_ok-built-in-Done.built in
     let j = joined.joins b.low_tree b.high_tree b.low_is b.high_is in
     let noted = c.note.ensures.noted in
     record {

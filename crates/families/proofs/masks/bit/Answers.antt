@@ -1,4 +1,4 @@
-use Rattle.std.proofs.Common.{◌≡◌, ◌-◌, ◌*◌, ◌^◌, ◌<◌, ◌≤◌, leb, Some, sym, ap, ◌∙◌, mod-eq_of_lt, one-mul, arith}
+use Rattle.std.proofs.Common.{◌-◌, ◌^◌, ◌<◌, leb, Some, sym, ap, ◌∙◌, mod-eq_of_lt, one-mul, arith}
 use Rattle.std.proofs.lemmas.Nat.{pow_below}
 use Rattle.std.proofs.lemmas.Bool.{and_from, cond-true, le-leb}
 use Rattle.families.specs.Groups.{weight, is_member}

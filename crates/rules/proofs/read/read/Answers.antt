@@ -7,7 +7,7 @@ use Rattle.rules.proofs.read.read.Goals as goal
 
 pub returns-in-Ok : goal.returns-in-Ok
 returns-in-Ok c =
-    let h = view c.read-into.new.terms in
+    let h = view c.read_into.new.terms in
     let room : h.room ≡ (view c.args.terms.now).room = c.in-Ok.ensures.room ∙ ap (λ (x : Held). x.room) c.clear.ensures.view in
     record {
       comes = subst (λ m. Comes h (Ok c.in-Ok.place) (outcome c.args.n m c.args.text.now)) room c.in-Ok.ensures.comes;
@@ -17,7 +17,7 @@ returns-in-Ok c =
 
 pub returns-in-Err : goal.returns-in-Err
 returns-in-Err c =
-    let h = view c.read-into.new.terms in
+    let h = view c.read_into.new.terms in
     let h' = view c.clear-in-Err.new.self in
     let cleared : h'.room ≡ h.room = ap (λ (x : Held). x.room) c.clear-in-Err.ensures.view in
     let room : h.room ≡ (view c.args.terms.now).room = c.in-Err.ensures.room ∙ ap (λ (x : Held). x.room) c.clear.ensures.view in

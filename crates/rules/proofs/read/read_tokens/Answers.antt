@@ -1,4 +1,4 @@
-use Rattle.std.proofs.Common.{◌≡◌, [], length, Some, Ok, Err, sym, refl, ap, ◌∙◌, subst, arith}
+use Rattle.std.proofs.Common.{[], length, Some, Ok, Err, sym, refl, ap, ◌∙◌, subst, arith}
 use Rattle.std.proofs.lemmas.Result.{err_from_is_err_and}
 use Rattle.rules.specs.Building.{Held}
 use Rattle.rules.specs.Following.{AtItem}
@@ -7,7 +7,7 @@ use Rattle.rules.specs.Memory.{view}
 use Rattle.rules.specs.Outcome.{ReadOff}
 use Rattle.rules.specs.Reading.{run, start}
 use Rattle.rules.specs.Scanning.{ahead}
-use Rattle.rules.proofs.Onward.{Onward, start_follows, text_fault, rule_fault, token_taken, text_ended}
+use Rattle.rules.proofs.Onward.{start_follows, text_fault, rule_fault, token_taken, text_ended}
 use Rattle.rules.proofs.read.read_tokens.Goals as goal
 
 pub loop-lexeme-init : goal.loop-lexeme-init
@@ -22,23 +22,23 @@ loop-lexeme-init c =
       },
     )
 
-pub returns-in-err-lexeme : goal.returns-in-err-lexeme
-returns-in-err-lexeme c =
-    let p = err_from_is_err_and c.from-residual.result c.from-residual.ensures.1 in
+pub returns-in_err-lexeme : goal.returns-in_err-lexeme
+returns-in_err-lexeme c =
+    let p = err_from_is_err_and c.from_residual.result c.from_residual.ensures.1 in
     record {
-      reads = subst (ReadOff c.args.n c.args.text.now (view c.loop-lexeme.terms)) (sym (p.1 ∙ ap Err p.2)) (text_fault c.loop-lexeme.invariant.1 (view c.loop-lexeme.terms) c.in-err-lexeme.field-0.0 (ap Some (sym c.in-err-lexeme.was) ∙ c.in-Some.ensures.value));
+      reads = subst (ReadOff c.args.n c.args.text.now (view c.loop-lexeme.terms)) (sym (p.1 ∙ ap Err p.2)) (text_fault c.loop-lexeme.invariant.1 (view c.loop-lexeme.terms) c.in_err-lexeme.field-0.0 (ap Some (sym c.in_err-lexeme.was) ∙ c.in-Some.ensures.value));
       room = c.loop-lexeme.invariant.0;
     }
 
 pub take-requires : goal.take-requires
 take-requires c = (c.loop-lexeme.invariant.1.state, c.loop-lexeme.invariant.1.follows)
 
-pub returns-in-err-wants : goal.returns-in-err-wants
-returns-in-err-wants c =
-    let p = err_from_is_err_and c.from-residual-in-err-wants.result c.from-residual-in-err-wants.ensures.1 in
+pub returns-in_err-wants : goal.returns-in_err-wants
+returns-in_err-wants c =
+    let p = err_from_is_err_and c.from_residual-in_err-wants.result c.from_residual-in_err-wants.ensures.1 in
     record {
-      reads = subst (ReadOff c.args.n c.args.text.now (view c.take.new.terms)) (sym (p.1 ∙ ap Err p.2)) (rule_fault c.loop-lexeme.invariant.1 (view c.take.new.terms) (view c.take.new.terms) c.in-ok-lexeme.field-0 (levels c.take.new.nest) c.in-err-wants.field-0.0 (ap Some (sym c.in-ok-lexeme.was) ∙ c.in-Some.ensures.value) c.in-err-wants.ensures.steps);
-      room = c.in-err-wants.ensures.room ∙ c.loop-lexeme.invariant.0;
+      reads = subst (ReadOff c.args.n c.args.text.now (view c.take.new.terms)) (sym (p.1 ∙ ap Err p.2)) (rule_fault c.loop-lexeme.invariant.1 (view c.take.new.terms) (view c.take.new.terms) c.in_ok-lexeme.field-0 (levels c.take.new.nest) c.in_err-wants.field-0.0 (ap Some (sym c.in_ok-lexeme.was) ∙ c.in-Some.ensures.value) c.in_err-wants.ensures.steps);
+      room = c.in_err-wants.ensures.room ∙ c.loop-lexeme.invariant.0;
     }
 
 pub loop-lexeme-smaller : goal.loop-lexeme-smaller
@@ -46,10 +46,10 @@ loop-lexeme-smaller c = omega (arith, c.in-Some.ensures.onward refl, ap length (
 
 pub loop-lexeme-preserved : goal.loop-lexeme-preserved
 loop-lexeme-preserved c = (
-  c.in-ok-wants.ensures.room ∙ c.loop-lexeme.invariant.0,
-  token_taken c.loop-lexeme.invariant.1 (view c.take.new.terms) c.in-ok-lexeme.field-0 c.in-ok-wants.wants (levels c.take.new.nest) c.next.new.self.text.now c.next.new.self.at
-      (ap Some (sym c.in-ok-lexeme.was) ∙ c.in-Some.ensures.value) c.in-Some.ensures.text c.in-Some.ensures.after c.in-ok-wants.ensures.steps,
+  c.in_ok-wants.ensures.room ∙ c.loop-lexeme.invariant.0,
+  token_taken c.loop-lexeme.invariant.1 (view c.take.new.terms) c.in_ok-lexeme.field-0 c.in_ok-wants.wants (levels c.take.new.nest) c.next.new.self.text.now c.next.new.self.at
+      (ap Some (sym c.in_ok-lexeme.was) ∙ c.in-Some.ensures.value) c.in-Some.ensures.text c.in-Some.ensures.after c.in_ok-wants.ensures.steps,
 )
 
 pub returns : goal.returns
-returns c = record { reads = text_ended c.loop-lexeme.invariant.1 c.finish.result c.in-default.ensures.value c.finish.ensures; room = c.loop-lexeme.invariant.0 }
+returns c = record { reads = text_ended c.loop-lexeme.invariant.1 c.finish.result c.in_default.ensures.value c.finish.ensures; room = c.loop-lexeme.invariant.0 }

@@ -1,12 +1,11 @@
 use Rattle.std.proofs.Common.{◌≡◌, ℕ, Bool, List, ◌∷◌, length, sym, refl, ap, ◌∙◌, subst}
-use Rattle.rules.specs.declared.nest.OpenList.{OpenList}
 use Rattle.rules.specs.declared.words.Head.{Head}
 use Rattle.rules.specs.Building.{Held, AllAt, Makes}
 use Rattle.rules.specs.Following.{AtItem}
 use Rattle.rules.specs.Levels.{Level, level, levels}
 use Rattle.rules.specs.Memory.{view}
 use Rattle.rules.specs.Reading.{Frame, fits}
-use Rattle.rules.specs.Terms.{Term, expand_list}
+use Rattle.rules.specs.Terms.{expand_list}
 use Rattle.rules.proofs.Steps.{closed_empty, closed_unfit, closed_whole, outer_room}
 use Rattle.rules.proofs.reader.at_close.Goals as goal
 

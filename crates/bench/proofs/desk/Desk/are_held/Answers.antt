@@ -23,7 +23,7 @@ loop-number-preserved g c =
     let xs = c.args.sources.now in
     let i = c.loop-number.number-index in
     passed_more (λ a. is_some (on_shelf ss a)) (all_held ss) (λ x xs. refl) xs i c.loop-number.invariant c.loop-number-test.true
-    (ap is_some (stands_at (held_trees d) d.shelves.records (get_or xs i 0) ∙ ap (stand (held_trees d)) (sym c.in-default.ensures)))
+    (ap is_some (stands_at (held_trees d) d.shelves.records (get_or xs i 0) ∙ ap (stand (held_trees d)) (sym c.in_default.ensures)))
 
 pub returns : goal.returns
 returns g c =

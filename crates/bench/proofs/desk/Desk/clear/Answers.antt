@@ -11,7 +11,7 @@ pub returns : goal.returns
 returns g c =
     let d = c.args.self.now in
     let call = clear c.args.target in
-    let free = λ (len : ℕ). let_in (sizes d) (shelved d) call len c.in-ok-admit.ensures refl refl refl (no_bytes len) in
+    let free = λ (len : ℕ). let_in (sizes d) (shelved d) call len c.in_ok-admit.ensures refl refl refl (no_bytes len) in
     record {
       fit = fit_put d c.put.new.self c.args.target Empty c.put.ensures _ c.requires (named_below (sizes d) (shelved d) call 0 (free 0)).0 tt tt;
       tells = λ bytes. record { no_denial = free (length bytes); says = refl; bytes = refl; shelves = shelved_put d c.put.new.self c.args.target Empty c.put.ensures };

@@ -18,7 +18,7 @@ returns g c =
     let b = c.args.target in
     let x = c.at-shelf.result in
     let is = c.at-shelf.ensures in
-    let free = λ (len : ℕ). let_in (sizes d) (shelved d) (copy a b) len c.in-ok-admit.ensures refl refl refl (no_bytes len) in
+    let free = λ (len : ℕ). let_in (sizes d) (shelved d) (copy a b) len c.in_ok-admit.ensures refl refl refl (no_bytes len) in
     let there = named_below (sizes d) (shelved d) (copy a b) 0 (free 0) in
     let stood = stands_at ts xs a ∙ ap (stand ts) (sym is) in
     record {

@@ -15,11 +15,11 @@ returns g c =
     let es = (view d.terms.now).terms in
     let p = plan.Either c.args.first c.args.second in
     let t = act.either c.args.first c.args.second c.args.target in
-    let done = c.put-worked.ensures in
-    let tells = λ (bytes : List ℕ). onto_tells z ss t (planned ss es p) c.args.target bytes c.in-ok-admit.ensures refl refl refl _ (held_trees d) _ es p refl _ _ _ refl refl refl refl c.put-worked.result done.onto in
+    let done = c.put_worked.ensures in
+    let tells = λ (bytes : List ℕ). onto_tells z ss t (planned ss es p) c.args.target bytes c.in_ok-admit.ensures refl refl refl _ (held_trees d) _ es p refl _ _ _ refl refl refl refl c.put_worked.result done.onto in
     record {
       fit = done.fit (told_stocked z _ ss _ t [] _ [] c.requires.allowed.few_members c.requires.stocked done.sizes (tells []));
       tells = tells;
       sizes = done.sizes;
-      tally = onto_tally z ss t (planned ss es p) c.args.target [] c.in-ok-admit.ensures refl refl refl _ (held_trees d) _ es p refl _ _ _ c.put-worked.result done.onto;
+      tally = onto_tally z ss t (planned ss es p) c.args.target [] c.in_ok-admit.ensures refl refl refl _ (held_trees d) _ es p refl _ _ _ c.put_worked.result done.onto;
     }

@@ -17,7 +17,7 @@ returns g c =
     let gs = listed (shelved d) c.args.source c.args.below (length bytes) in
     let done = c.list.ensures (tree_on (shelved d) c.args.source) c.family.ensures in
     record {
-      no_denial = let_in (sizes d) (shelved d) (groups c.args.source c.args.below) (length bytes) c.in-ok-admit.ensures refl refl refl (le-leb 8 (length bytes) c.if-buffer-lt-GROUP.false);
+      no_denial = let_in (sizes d) (shelved d) (groups c.args.source c.args.below) (length bytes) c.in_ok-admit.ensures refl refl refl (le-leb 8 (length bytes) c.if-buffer-lt-GROUP.false);
       says = ap Groups done.count;
       bytes = done.written ∙ ap (λ n. page_bytes gs ++ drop n bytes) (sym (length_page gs));
       shelves = refl;

@@ -7,8 +7,8 @@ use Rattle.bench.proofs.desk.Desk.put_worked.Goals as goal
 pub returns : goal.returns
 returns g c =
     let a = c.attempt.new.self in
-    let w = c.in-ok-worked.worked in
-    let s = c.in-ok-worked.ensures in
+    let w = c.in_ok-worked.worked in
+    let s = c.in_ok-worked.ensures in
     let x = Holds w.found.last in
     let done = s.attempted in
     record {

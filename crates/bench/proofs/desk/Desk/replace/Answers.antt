@@ -17,11 +17,11 @@ returns g c =
     let p = plan.Replace c.args.source c.args.member c.args.by in
     let t = act.replace c.args.source c.args.member c.args.by c.args.target in
     let member : member_no z.members (Some c.args.member) ≡ None = member_yes z.members c.args.member (omega arith) (omega arith) in
-    let done = c.put-worked.ensures in
-    let tells = λ (bytes : List ℕ). onto_tells z ss t (planned ss es p) c.args.target bytes c.in-ok-admit.ensures member refl refl _ (held_trees d) _ es p refl _ _ _ refl refl refl refl c.put-worked.result done.onto in
+    let done = c.put_worked.ensures in
+    let tells = λ (bytes : List ℕ). onto_tells z ss t (planned ss es p) c.args.target bytes c.in_ok-admit.ensures member refl refl _ (held_trees d) _ es p refl _ _ _ refl refl refl refl c.put_worked.result done.onto in
     record {
       fit = done.fit (told_stocked z _ ss _ t [] _ [] c.requires.allowed.few_members c.requires.stocked done.sizes (tells []));
       tells = tells;
       sizes = done.sizes;
-      tally = onto_tally z ss t (planned ss es p) c.args.target [] c.in-ok-admit.ensures member refl refl _ (held_trees d) _ es p refl _ _ _ c.put-worked.result done.onto;
+      tally = onto_tally z ss t (planned ss es p) c.args.target [] c.in_ok-admit.ensures member refl refl _ (held_trees d) _ es p refl _ _ _ c.put_worked.result done.onto;
     }

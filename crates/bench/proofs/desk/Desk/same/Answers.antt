@@ -15,7 +15,7 @@ returns g c bytes =
     let s = tree_on (shelved d) c.args.first in
     let t = tree_on (shelved d) c.args.second in
     record {
-      no_denial = let_in (sizes d) (shelved d) (same c.args.first c.args.second) (length bytes) c.in-ok-admit.ensures refl refl refl (no_bytes (length bytes));
+      no_denial = let_in (sizes d) (shelved d) (same c.args.first c.args.second) (length bytes) c.in_ok-admit.ensures refl refl refl (no_bytes (length bytes));
       says = ap Same (same_from_decides c.same.result (equal s t) (c.same.ensures s t c.family.ensures c.family-2.ensures) (equal_exact s t));
       bytes = refl;
       shelves = refl;

@@ -13,11 +13,11 @@ pub returns : goal.returns
 returns g c =
     let d = c.args.self.now in
     let ts = held_trees d in
-    let us = trees c.clear-out.new.nodes in
+    let us = trees c.clear_out.new.nodes in
     let xs = d.shelves.records in
-    let done = c.clear-out.ensures in
-    let collected = subst (λ rs. Collected ts rs us c.clear-out.new.roots) c.roots-roots.ensures done.collected in
-    let moved = stands_moved ts us xs c.move-to.new.self.records c.clear-out.new.roots d.shelves.size c.move-to.new.self.size c.requires.held collected c.move-to.ensures in
+    let done = c.clear_out.ensures in
+    let collected = subst (λ rs. Collected ts rs us c.clear_out.new.roots) c.roots-roots.ensures done.collected in
+    let moved = stands_moved ts us xs c.move_to.new.self.records c.clear_out.new.roots d.shelves.size c.move_to.new.self.size c.requires.held collected c.move_to.ensures in
     let spared = spared_work d _ done.places refl refl refl done.marks done.copies done.moves refl refl in
     let sane = sane_none (g.M.Memo.keeps c.forget.new.self) us (g.M.Memo.notes c.forget.new.self) c.forget.ensures.emptied in
     record {

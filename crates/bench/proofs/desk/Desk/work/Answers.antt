@@ -14,8 +14,8 @@ use Rattle.bench.proofs.Desked.{fit_worked, same_worked, spared_work, works_kept
 use Rattle.bench.proofs.Planned.{works_planned, works_only, replace_trees, judge_trees, finds_tree, finds_planned}
 use Rattle.bench.proofs.desk.Desk.work.Goals as goal
 
-pub rule-family-requires : goal.rule-family-requires
-rule-family-requires g c =
+pub rule_family-requires : goal.rule_family-requires
+rule_family-requires g c =
     let d = c.args.self.now in
     record {
       sane = c.requires.fit.sane;
@@ -29,17 +29,17 @@ returns-in-Rule g c =
     let ts = held_trees d in
     let ss = shelved d in
     let es = (view d.terms.now).terms in
-    let done = c.rule-family.ensures in
+    let done = c.rule_family.ensures in
     let p = c.in-Rule.root in
     let rule = subst (Plannable (view d.terms.now)) c.in-Rule.is c.requires.plan in
     let holds = subst (Holds (view d.terms.now) p) (sym (rule.1.stands.here blank)) rule.1 in
     let w = done.works (get_or es p blank) holds in
-    let kept = works_kept _ _ _ _ _ _ _ _ _ _ c.rule-family.result w in
+    let kept = works_kept _ _ _ _ _ _ _ _ _ _ c.rule_family.result w in
     let spared = spared_work d _ done.places refl refl refl refl refl refl refl done.cells in
     record {
       fit = fit_worked d _ _ _ _ _ c.requires.fit spared done.sane refl kept;
       same = same_worked d _ _ _ _ _ c.requires.fit spared done.sane refl kept;
-      works = works_planned _ _ _ _ _ _ _ _ _ ss es (plan.Rule p) c.args.plan c.in-Rule.is _ (works_only _ _ _ _ _ _ _ _ _ _ c.rule-family.result _ c.only.ensures w);
+      works = works_planned _ _ _ _ _ _ _ _ _ ss es (plan.Rule p) c.args.plan c.in-Rule.is _ (works_only _ _ _ _ _ _ _ _ _ _ c.rule_family.result _ c.only.ensures w);
       finds = finds_planned _ ss (plan.Rule p) c.args.plan c.in-Rule.is _ tt;
     }
 

@@ -5,7 +5,7 @@ use Rattle.bench.specs.declared.shelves.Shelf.TheVariants.{Empty}
 use Rattle.bench.specs.Stands.{root}
 use Rattle.bench.proofs.ShelfLists.{Rooted, rooted_all, rooted_empty, rooted_holds}
 use Rattle.bench.proofs.shelves.Shelves.roots.Goals as goal
-use Rattle.bench.proofs.shelves.Shelves.roots.Goals.{in-Holds, in-default}
+use Rattle.bench.proofs.shelves.Shelves.roots.Goals.{in-Holds, in_default}
 
 pub loop-i-init : goal.loop-i-init
 loop-i-init c = record {
@@ -20,7 +20,7 @@ loop-i-preserved c =
     let i = c.loop-i.i in
     elim c.match-shelf.branch [
       | in-Holds w ↦ subst (λ rs. Rooted xs rs (i + 1)) (sym w.roots-is) (rooted_holds xs c.loop-i.roots i w.in-Holds.diagram c.loop-i.invariant c.loop-i-test.true w.in-Holds.is)
-      | in-default w ↦ subst (λ rs. Rooted xs rs (i + 1)) (sym w.roots-is) (rooted_empty xs c.loop-i.roots i c.loop-i.invariant c.loop-i-test.true w.in-default.is)
+      | in_default w ↦ subst (λ rs. Rooted xs rs (i + 1)) (sym w.roots-is) (rooted_empty xs c.loop-i.roots i c.loop-i.invariant c.loop-i-test.true w.in_default.is)
     ]
 
 pub returns : goal.returns

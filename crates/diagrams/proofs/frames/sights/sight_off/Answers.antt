@@ -2,8 +2,8 @@ use Rattle.diagrams.specs.Memory.{trees}
 use Rattle.diagrams.proofs.Sighted.{held_denotes, seen_by, seen_open, off_end, off_before, off_here, off_opens}
 use Rattle.diagrams.proofs.frames.sights.sight_off.Goals as goal
 
-pub returns-in-default : goal.returns-in-default
-returns-in-default c t x = seen_by (off_end t c.args.away (c.in-default.ensures t x)) x
+pub returns-in_default : goal.returns-in_default
+returns-in_default c t x = seen_by (off_end t c.args.away (c.in_default.ensures t x)) x
 
 pub returns-then-away-node : goal.returns-then-away-node
 returns-then-away-node c t x = seen_by (off_before c.args.away (c.in-Some.ensures t x).1 c.if-away-node.true) x

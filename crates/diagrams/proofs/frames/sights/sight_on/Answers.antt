@@ -3,8 +3,8 @@ use Rattle.diagrams.proofs.Opened.{none_denotes}
 use Rattle.diagrams.proofs.Sighted.{held_denotes, seen_by, seen_open, on_end, on_before, on_here, on_opens}
 use Rattle.diagrams.proofs.frames.sights.sight_on.Goals as goal
 
-pub returns-in-default : goal.returns-in-default
-returns-in-default c t x = seen_by (on_end t c.args.away (c.in-default.ensures t x)) (none_denotes (trees c.args.nodes.now) c.none.result c.none.ensures)
+pub returns-in_default : goal.returns-in_default
+returns-in_default c t x = seen_by (on_end t c.args.away (c.in_default.ensures t x)) (none_denotes (trees c.args.nodes.now) c.none.result c.none.ensures)
 
 pub returns-then-away-node : goal.returns-then-away-node
 returns-then-away-node c t x = seen_by (on_before c.args.away (c.in-Some.ensures t x).1 c.if-away-node.true) (none_denotes (trees c.args.nodes.now) c.none-then-away-node.result c.none-then-away-node.ensures)

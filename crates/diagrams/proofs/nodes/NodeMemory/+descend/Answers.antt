@@ -4,27 +4,27 @@ use Rattle.diagrams.proofs.Firsts.{bit_some, bit_weight, low_falls, high_falls, 
 use Rattle.diagrams.proofs.nodes.NodeMemory.+descend.Goals as goal
 use Rattle.diagrams.proofs.nodes.NodeMemory.+descend.Goals.{else-avoids-via-then-avoids+else-finds, else-avoids-via-else-avoids}
 
-pub returns-in-err-weight : goal.returns-in-err-weight
-returns-in-err-weight t c s den = absurd (bit_some c.bit.result c.from.result c.key-node.result.member c.in-err-weight.was c.bit.ensures c.from.ensures (member_held c.args.self.now c.args.diagram c.in-Node.place c.key-node.result c.in-Node.ensures c.key-node.ensures))
+pub returns-in_err-weight-in-Node : goal.returns-in_err-weight-in-Node
+returns-in_err-weight-in-Node t c s den = absurd (bit_some c.bit.result c.from.result c.key-node.result.member c.in_err-weight-in-Node.was c.bit.ensures c.from.ensures (member_held c.args.self.now c.args.diagram c.in-Node.place c.key-node.result c.in-Node.ensures c.key-node.ensures))
 
 pub descend-requires : goal.descend-requires
 descend-requires t c =
     let falls : c.key-node.result.high.code < t = omega (arith, c.decreases, high_falls c.args.self.now c.args.diagram c.in-Node.place c.key-node.result c.in-Node.ensures c.key-node.ensures) in
     (falls, c.requires)
 
-pub returns-in-err-rest : goal.returns-in-err-rest
-returns-in-err-rest t c s den = absurd (high_some c.args.self.now c.in-Node.place c.key-node.result c.key-node.ensures c.args.group c.args.cells.now c.requires c.finds.result c.descend.result c.finds.ensures c.if-finds.true (c.descend.ensures _ (high_denotes c.args.self.now c.args.diagram c.in-Node.place c.key-node.result c.in-Node.ensures c.key-node.ensures)) c.in-err-rest.was)
+pub returns-in_err-rest-in-Node : goal.returns-in_err-rest-in-Node
+returns-in_err-rest-in-Node t c s den = absurd (high_some c.args.self.now c.in-Node.place c.key-node.result c.key-node.ensures c.args.group c.args.cells.now c.requires c.finds.result c.descend.result c.finds.ensures c.if-finds.true (c.descend.ensures _ (high_denotes c.args.self.now c.args.diagram c.in-Node.place c.key-node.result c.in-Node.ensures c.key-node.ensures)) c.in_err-rest-in-Node.was)
 
-pub overflow-add-result : goal.overflow-add-result
-overflow-add-result t c =
+pub overflow_add-result : goal.overflow_add-result
+overflow_add-result t c =
     let m = c.args.self.now in
     let k = c.key-node.result in
     let d = c.args.diagram in
     let p = c.in-Node.place in
     let is = c.in-Node.ensures in
     let stands = c.key-node.ensures in
-    let w = bit_weight c.bit.result c.from.result k.member c.in-ok-weight.weight c.in-ok-weight.was c.bit.ensures c.from.ensures (member_held m d p k is stands) in
-    omega (arith, sum_few m p k stands c.args.group c.in-ok-weight.weight c.in-ok-rest.rest c.descend.result w (c.descend.ensures _ (high_denotes m d p k is stands)) c.in-ok-rest.was)
+    let w = bit_weight c.bit.result c.from.result k.member c.in_ok-weight-in-Node.weight c.in_ok-weight-in-Node.was c.bit.ensures c.from.ensures (member_held m d p k is stands) in
+    omega (arith, sum_few m p k stands c.args.group c.in_ok-weight-in-Node.weight c.in_ok-rest-in-Node.rest c.descend.result w (c.descend.ensures _ (high_denotes m d p k is stands)) c.in_ok-rest-in-Node.was)
 
 pub returns-then-finds : goal.returns-then-finds
 returns-then-finds t c s den =
@@ -34,8 +34,8 @@ returns-then-finds t c s den =
     let p = c.in-Node.place in
     let is = c.in-Node.ensures in
     let stands = c.key-node.ensures in
-    let w = bit_weight c.bit.result c.from.result k.member c.in-ok-weight.weight c.in-ok-weight.was c.bit.ensures c.from.ensures (member_held m d p k is stands) in
-    first_high m p k stands c.args.group d s is den c.in-ok-weight.weight c.in-ok-rest.rest c.avoids.result c.descend.result w c.avoids.ensures.bits c.if-avoids.true (c.descend.ensures _ (high_denotes m d p k is stands)) c.in-ok-rest.was
+    let w = bit_weight c.bit.result c.from.result k.member c.in_ok-weight-in-Node.weight c.in_ok-weight-in-Node.was c.bit.ensures c.from.ensures (member_held m d p k is stands) in
+    first_high m p k stands c.args.group d s is den c.in_ok-weight-in-Node.weight c.in_ok-rest-in-Node.rest c.avoids.result c.descend.result w c.avoids.ensures.bits c.if-avoids.true (c.descend.ensures _ (high_denotes m d p k is stands)) c.in_ok-rest-in-Node.was
 
 pub descend-requires-in-Node : goal.descend-requires-in-Node
 descend-requires-in-Node t c =
@@ -50,9 +50,9 @@ returns-else-avoids t c s den =
     let p = c.in-Node.place in
     let is = c.in-Node.ensures in
     let stands = c.key-node.ensures in
-    let w = bit_weight c.bit.result c.from.result k.member c.in-ok-weight.weight c.in-ok-weight.was c.bit.ensures c.from.ensures (member_held m d p k is stands) in
+    let w = bit_weight c.bit.result c.from.result k.member c.in_ok-weight-in-Node.weight c.in_ok-weight-in-Node.was c.bit.ensures c.from.ensures (member_held m d p k is stands) in
     let low = c.descend-in-Node.ensures _ (low_denotes m d p k is stands) in
     elim c.else-avoids.branch [
       | else-avoids-via-then-avoids+else-finds way ↦ first_low m p k stands c.args.group d s is den c.args.cells.now way.finds.result c.descend-in-Node.result c.requires way.finds.ensures way.if-finds.false low
-      | else-avoids-via-else-avoids way ↦ first_barred m p k stands c.args.group d s is den c.in-ok-weight.weight c.avoids.result c.descend-in-Node.result w c.avoids.ensures.bits way.if-avoids.false low
+      | else-avoids-via-else-avoids way ↦ first_barred m p k stands c.args.group d s is den c.in_ok-weight-in-Node.weight c.avoids.result c.descend-in-Node.result w c.avoids.ensures.bits way.if-avoids.false low
     ]

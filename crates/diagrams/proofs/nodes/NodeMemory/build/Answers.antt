@@ -6,22 +6,19 @@ use Rattle.diagrams.proofs.Built.{key_proper, key_built, key_refused, rooted_int
 use Rattle.diagrams.proofs.Memories.{names_held, lifted}
 use Rattle.diagrams.proofs.nodes.NodeMemory.build.Goals as goal
 
-pub invariant-of-self : goal.invariant-of-self
-invariant-of-self c =
+pub invariant_of-self : goal.invariant_of-self
+invariant_of-self c =
     let m = c.args.self.now in
     let k : Node = record { member = c.args.member; low = c.args.low; high = c.args.high } in
     let names : NamesBelow (length (trees m)) k = (c.requires.fitting.low_held, c.requires.fitting.high_held) in
     let interned = c.intern.ensures.interned m.sound in
-    let proper = key_proper m k names (λ e. c.in-default.not-None (c.view.ensures ∙ e)) c.requires.fitting.good in (
-      omega (arith, m.few, c.intern.ensures.capacity),
-      (
-        c.intern.ensures.sound m.sound,
-        (
-          rooted_interned _ _ k c.intern.result _ m.rooted (names_held m k names) interned,
-          (good_interned _ _ (node_tree (trees m) k) c.intern.result _ m.good proper (lifted m k c.intern.result _ names interned), tt),
-        ),
-      ),
-    )
+    let proper = key_proper m k names (λ e. c.in_default.not-None (c.view.ensures ∙ e)) c.requires.fitting.good in
+    record {
+      few = omega (arith, m.few, c.intern.ensures.capacity);
+      sound = c.intern.ensures.sound m.sound;
+      rooted = rooted_interned _ _ k c.intern.result _ m.rooted (names_held m k names) interned;
+      good = good_interned _ _ (node_tree (trees m) k) c.intern.result _ m.good proper (lifted m k c.intern.result _ names interned);
+    }
 
 pub returns-in-Ok : goal.returns-in-Ok
 returns-in-Ok c =
@@ -30,8 +27,8 @@ returns-in-Ok c =
     let names : NamesBelow (length (trees m)) k = (c.requires.fitting.low_held, c.requires.fitting.high_held) in
     record {
       built = λ l h x y.
-          simp c.ok-or.ensures.value
-          (key_built m k names (λ e. c.in-default.not-None (c.view.ensures ∙ e)) _ l h x y c.in-Ok.place c.node.result _ c.node.ensures (c.in-Ok.ensures.interned m.sound));
+          simp c.ok_or.ensures.value
+          (key_built m k names (λ e. c.in_default.not-None (c.view.ensures ∙ e)) _ l h x y c.in-Ok.place c.node.result _ c.node.ensures (c.in-Ok.ensures.interned m.sound));
       places = c.intern.ensures.capacity;
       named = c.intern.ensures.named;
     }
@@ -42,7 +39,7 @@ returns-in-Err c =
     let k : Node = record { member = c.args.member; low = c.args.low; high = c.args.high } in
     let names : NamesBelow (length (trees m)) k = (c.requires.fitting.low_held, c.requires.fitting.high_held) in
     record {
-      built = λ l h x y. key_refused m k names (λ e. c.in-default.not-None (c.view.ensures ∙ e)) _ l h x y c.in-Err.full (c.in-Err.ensures.interned m.sound);
+      built = λ l h x y. key_refused m k names (λ e. c.in_default.not-None (c.view.ensures ∙ e)) _ l h x y c.in-Err.full (c.in-Err.ensures.interned m.sound);
       places = c.intern.ensures.capacity;
       named = c.intern.ensures.named;
     }

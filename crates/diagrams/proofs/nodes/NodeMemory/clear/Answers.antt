@@ -6,11 +6,14 @@ use Rattle.diagrams.proofs.Built.{good_none}
 use Rattle.diagrams.specs.NodeTrees.{rooted_none}
 use Rattle.diagrams.proofs.nodes.NodeMemory.clear.Goals as goal
 
-pub invariant-of-self : goal.invariant-of-self
-invariant-of-self c = (
-  omega (arith, c.args.self.now.few, c.clear.ensures.capacity),
-  (c.clear.ensures.sound, (rooted_none _ c.clear.ensures.held, (good_none _ c.clear.ensures.held, tt))),
-)
+pub invariant_of-self : goal.invariant_of-self
+invariant_of-self c =
+    record {
+      few = omega (arith, c.args.self.now.few, c.clear.ensures.capacity);
+      sound = c.clear.ensures.sound;
+      rooted = rooted_none _ c.clear.ensures.held;
+      good = good_none _ c.clear.ensures.held;
+    }
 
 pub returns : goal.returns
 returns c = record {

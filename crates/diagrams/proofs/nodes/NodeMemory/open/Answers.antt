@@ -6,11 +6,14 @@ use Rattle.diagrams.proofs.Built.{good_none}
 use Rattle.diagrams.specs.NodeTrees.{rooted_none}
 use Rattle.diagrams.proofs.nodes.NodeMemory.open.Goals as goal
 
-pub invariant-of-result : goal.invariant-of-result
-invariant-of-result c = (
-  omega (arith, simp length-take at c.open.ensures.capacity),
-  (c.open.ensures.sound, (rooted_none _ c.open.ensures.held, (good_none _ c.open.ensures.held, tt))),
-)
+pub invariant_of-result : goal.invariant_of-result
+invariant_of-result c =
+    record {
+      few = omega (arith, simp length-take at c.open.ensures.capacity);
+      sound = c.open.ensures.sound;
+      rooted = rooted_none _ c.open.ensures.held;
+      good = good_none _ c.open.ensures.held;
+    }
 
 pub returns : goal.returns
 returns c = record { trees = ap (decode node_tree) c.open.ensures.held ∙ decode_none node_tree; places = omega (arith, simp length-take at c.open.ensures.capacity) }

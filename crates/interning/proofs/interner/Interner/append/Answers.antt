@@ -6,20 +6,20 @@ use Rattle.interning.proofs.Sound.{linked_out, sound_from}
 use Rattle.interning.proofs.Writes.{written}
 use Rattle.interning.proofs.interner.Interner.append.Goals as goal
 
-pub offset-bounds-slots-bucket : goal.offset-bounds-slots-bucket
-offset-bounds-slots-bucket g c =
+pub offset_bounds-slots-bucket : goal.offset_bounds-slots-bucket
+offset_bounds-slots-bucket g c =
     let n = length c.args.self.now.slots.now in
     let l : c.hash.result % n < n = mod-lt c.hash.result (omega arith) in
     search rules
 
-pub offset-bounds-slots-bucket-2 : goal.offset-bounds-slots-bucket-2
-offset-bounds-slots-bucket-2 g c =
+pub offset_bounds-slots-bucket-2 : goal.offset_bounds-slots-bucket-2
+offset_bounds-slots-bucket-2 g c =
     let n = length c.args.self.now.slots.now in
     let l : c.hash.result % n < n = mod-lt c.hash.result (omega arith) in
     search rules
 
-pub offset-bounds-slots-place-2 : goal.offset-bounds-slots-place-2
-offset-bounds-slots-place-2 g c =
+pub offset_bounds-slots-place-2 : goal.offset_bounds-slots-place-2
+offset_bounds-slots-place-2 g c =
     let l : c.args.self.now.used < length c.args.self.now.slots.now = omega arith in
     search rules
 

@@ -14,32 +14,32 @@ lawful g = record { exact = λ x y. (g.met.K.Key.sound x y, g.met.K.Key.whole x 
 pub loop-init : goal.loop-init
 loop-init g c sound seeks = (omega (arith, seeks.bound), seeks)
 
-pub returns-in-err-place : goal.returns-in-err-place
-returns-in-err-place g c sound seeks =
+pub returns-in_err-place : goal.returns-in_err-place
+returns-in_err-place g c sound seeks =
     let over : c.loop.cursor.past ≡ 0 = search rules in
-    subst (Sought (held c.args.self.now) c.args.key) (sym c.from-residual.ensures)
+    subst (Sought (held c.args.self.now) c.args.key) (sym c.from_residual.ensures)
     (missing (lawful g) (linked_out sound.2) (omega (arith, sound.1)) c.args.key c.loop.cursor.past over (c.loop.invariant sound seeks).1)
 
-pub returns-in-err-slot : goal.returns-in-err-slot
-returns-in-err-slot g c sound seeks =
-    let at : c.loop.cursor.past ≡ c.in-ok-place.place + 1 = search rules in
-    let f : ⊥ = omega (arith, sound.1, (c.loop.invariant sound seeks).0, c.in-err-slot.ensures.lookup.3) in
+pub returns-in_err-slot : goal.returns-in_err-slot
+returns-in_err-slot g c sound seeks =
+    let at : c.loop.cursor.past ≡ c.in_ok-place.place + 1 = search rules in
+    let f : ⊥ = omega (arith, sound.1, (c.loop.invariant sound seeks).0, c.in_err-slot.ensures.lookup.3) in
     absurd f
 
 pub returns-then-same : goal.returns-then-same
 returns-then-same g c sound seeks =
-    let at : c.loop.cursor.past ≡ c.in-ok-place.place + 1 = search rules in
-    found (lawful g) (linked_out sound.2) (omega (arith, sound.1)) c.args.key c.in-ok-place.place c.in-ok-slot.slot.now
-    (omega (arith, (c.loop.invariant sound seeks).0)) c.in-ok-slot.ensures.lookup.1 (sym c.if-same.ensures)
+    let at : c.loop.cursor.past ≡ c.in_ok-place.place + 1 = search rules in
+    found (lawful g) (linked_out sound.2) (omega (arith, sound.1)) c.args.key c.in_ok-place.place c.in_ok-slot.slot.now
+    (omega (arith, (c.loop.invariant sound seeks).0)) c.in_ok-slot.ensures.lookup.1 (sym c.if-same.ensures)
 
 pub loop-preserved : goal.loop-preserved
 loop-preserved g c sound seeks =
     let linked = linked_out sound.2 in
     let equal = g.K.Key.equal in
     let k = c.args.key in
-    let q = c.in-ok-place.place in
-    let s = c.in-ok-slot.slot.now in
-    let is = c.in-ok-slot.ensures.lookup.1 in
+    let q = c.in_ok-place.place in
+    let s = c.in_ok-slot.slot.now in
+    let is = c.in_ok-slot.ensures.lookup.1 in
     let at : c.loop.cursor.past ≡ q + 1 = search rules in
     let l : q < c.args.self.now.used = omega (arith, (c.loop.invariant sound seeks).0) in (
       omega (arith, (c.loop.invariant sound seeks).0, step_bound equal linked k q s l is),

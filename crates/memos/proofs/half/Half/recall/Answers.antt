@@ -7,20 +7,20 @@ use Rattle.memos.proofs.Noting.{unasked}
 use Rattle.memos.proofs.Paired.{asked_absent, in_paired}
 use Rattle.memos.proofs.half.Half.recall.Goals as goal
 
-pub returns-in-err-place : goal.returns-in-err-place
-returns-in-err-place c =
+pub returns-in_err-place : goal.returns-in_err-place
+returns-in_err-place c =
     let h = c.args.self.now in
     let q = c.args.question in
-    subst (Told (Unit {0}) (half_notes h) q) (sym c.from-residual.ensures)
-    (λ k. unasked q (half_notes h) (asked_absent q (held h.interner) h.answers.now (c.in-err-place.ensures c.requires.sound)))
+    subst (Told (Unit {0}) (half_notes h) q) (sym c.from_residual.ensures)
+    (λ k. unasked q (half_notes h) (asked_absent q (held h.interner) h.answers.now (c.in_err-place.ensures c.requires.sound)))
 
 pub bounds-self-place : goal.bounds-self-place
 bounds-self-place c =
     let h = c.args.self.now in
-    omega (arith, (c.in-ok-place.ensures c.requires.sound).0.within, half_fits h c.requires)
+    omega (arith, (c.in_ok-place.ensures c.requires.sound).0.within, half_fits h c.requires)
 
 pub returns : goal.returns
 returns c =
     let h = c.args.self.now in
-    let stands = (c.in-ok-place.ensures c.requires.sound).0 in
-    in_paired c.args.question (held h.interner) h.answers.now c.in-ok-place.place c.args.question _ stands.within (omega (arith, stands.within, half_fits h c.requires)) (stands.here c.args.question)
+    let stands = (c.in_ok-place.ensures c.requires.sound).0 in
+    in_paired c.args.question (held h.interner) h.answers.now c.in_ok-place.place c.args.question _ stands.within (omega (arith, stands.within, half_fits h c.requires)) (stands.here c.args.question)

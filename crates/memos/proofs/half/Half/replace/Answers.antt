@@ -30,9 +30,9 @@ returns-in-None c =
     let none = asked_absent c.args.question (held h.interner) h.answers.now (c.in-None.ensures c.requires.sound) in
     record { ready = c.requires; asked = sym none; notes = sym (answered_unasked c.args.question c.args.answer (half_notes h) none); room = refl }
 
-pub returns-then-is-empty : goal.returns-then-is-empty
+pub returns-then-is_empty : goal.returns-then-is_empty
 unfolding asked
-returns-then-is-empty c =
+returns-then-is_empty c =
     let h = c.args.self.now in
-    let none : asked c.args.question (half_notes h) ≡ false = ap (asked c.args.question) (c.if-is-empty.ensures.0 refl) in
+    let none : asked c.args.question (half_notes h) ≡ false = ap (asked c.args.question) (c.if-is_empty.ensures.0 refl) in
     record { ready = c.requires; asked = sym none; notes = sym (answered_unasked c.args.question c.args.answer (half_notes h) none); room = refl }

@@ -3,58 +3,40 @@ use Rattle.memos.proofs.Arranged.{arranged_out}
 use Rattle.memos.proofs.Trying.{arranged_first, arranged_second, tried_first, tried_second}
 use Rattle.memos.proofs.keeping.KeepingMemo.hold.Goals as goal
 
-pub invariant-of-self : goal.invariant-of-self
-invariant-of-self c =
+pub invariant_of-self : goal.invariant_of-self
+invariant_of-self c =
     let m = c.args.self.now in
-    let e = c.hold-in.ensures in (
-      e.ready.sound,
-      (
-        e.ready.roomy,
-        (
-          e.ready-other.sound,
-          (
-            e.ready-other.roomy,
-            (
-              omega (arith, e.room, e.room-other, m.larger),
-              (
-                omega (arith, e.room, e.room-other, m.even),
-                (∣ arranged_first c.args.question c.args.answer m.current m.whole _ _ _ _ _ _ e.room c.hold-in.result c.in-First.is (arranged_out m.current m.arranged) e.shared ∣₁, tt),
-              ),
-            ),
-          ),
-        ),
-      ),
-    )
+    let e = c.hold_in.ensures in
+    record {
+      first_sound = e.ready.sound;
+      first_roomy = e.ready.roomy;
+      second_sound = e.ready_other.sound;
+      second_roomy = e.ready_other.roomy;
+      larger = omega (arith, e.room, e.room_other, m.larger);
+      even = omega (arith, e.room, e.room_other, m.even);
+      arranged = ∣ arranged_first c.args.question c.args.answer m.current m.whole _ _ _ _ _ _ e.room c.hold_in.result c.in-First.is (arranged_out m.current m.arranged) e.shared ∣₁;
+    }
 
-pub invariant-of-self-in-Second : goal.invariant-of-self-in-Second
-invariant-of-self-in-Second c =
+pub invariant_of-self-in-Second : goal.invariant_of-self-in-Second
+invariant_of-self-in-Second c =
     let m = c.args.self.now in
-    let e = c.hold-in-in-Second.ensures in (
-      e.ready-other.sound,
-      (
-        e.ready-other.roomy,
-        (
-          e.ready.sound,
-          (
-            e.ready.roomy,
-            (
-              omega (arith, e.room, e.room-other, m.larger),
-              (
-                omega (arith, e.room, e.room-other, m.even),
-                (∣ arranged_second c.args.question c.args.answer m.current m.whole _ _ _ _ _ _ e.room-other _ c.hold-in-in-Second.result c.in-Second.is (arranged_out m.current m.arranged) e.shared ∣₁, tt),
-              ),
-            ),
-          ),
-        ),
-      ),
-    )
+    let e = c.hold_in-in-Second.ensures in
+    record {
+      first_sound = e.ready_other.sound;
+      first_roomy = e.ready_other.roomy;
+      second_sound = e.ready.sound;
+      second_roomy = e.ready.roomy;
+      larger = omega (arith, e.room, e.room_other, m.larger);
+      even = omega (arith, e.room, e.room_other, m.even);
+      arranged = ∣ arranged_second c.args.question c.args.answer m.current m.whole _ _ _ _ _ _ e.room_other _ c.hold_in-in-Second.result c.in-Second.is (arranged_out m.current m.arranged) e.shared ∣₁;
+    }
 
 pub returns-in-First : goal.returns-in-First
 returns-in-First c =
-    let e = c.hold-in.ensures in
-    tried_first c.args.question c.args.answer c.args.self.now _ refl refl e.room e.room-other c.hold-in.result c.in-First.is c.in-First.is e.shared
+    let e = c.hold_in.ensures in
+    tried_first c.args.question c.args.answer c.args.self.now _ refl refl e.room e.room_other c.hold_in.result c.in-First.is c.in-First.is e.shared
 
 pub returns-in-Second : goal.returns-in-Second
 returns-in-Second c =
-    let e = c.hold-in-in-Second.ensures in
-    tried_second c.args.question c.args.answer c.args.self.now _ refl refl e.room-other e.room c.hold-in-in-Second.result c.in-Second.is c.in-Second.is e.shared
+    let e = c.hold_in-in-Second.ensures in
+    tried_second c.args.question c.args.answer c.args.self.now _ refl refl e.room_other e.room c.hold_in-in-Second.result c.in-Second.is c.in-Second.is e.shared

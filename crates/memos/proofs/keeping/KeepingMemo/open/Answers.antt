@@ -2,8 +2,16 @@ use Rattle.std.proofs.Common.{arith}
 use Rattle.memos.proofs.Arranged.{arranged_none}
 use Rattle.memos.proofs.keeping.KeepingMemo.open.Goals as goal
 
-pub invariant-of-result : goal.invariant-of-result
-invariant-of-result c =
+pub invariant_of-result : goal.invariant_of-result
+invariant_of-result c =
     let f = c.open.ensures in
     let s = c.open-2.ensures in
-    (f.ready.sound, (f.ready.roomy, (s.ready.sound, (s.ready.roomy, (omega (arith, f.room, s.room, c.split-at-mut-first-slots.ensures.front-len, c.split-at-mut-second-slots.ensures.front-len), (omega (arith, f.room, s.room, c.split-at-mut-first-slots.ensures.front-len, c.split-at-mut-second-slots.ensures.front-len), (∣ arranged_none _ _ _ _ f.notes s.notes ∣₁, tt)))))))
+    record {
+      first_sound = f.ready.sound;
+      first_roomy = f.ready.roomy;
+      second_sound = s.ready.sound;
+      second_roomy = s.ready.roomy;
+      larger = omega (arith, f.room, s.room, c.split_at_mut-first_slots.ensures.front_len, c.split_at_mut-second_slots.ensures.front_len);
+      even = omega (arith, f.room, s.room, c.split_at_mut-first_slots.ensures.front_len, c.split_at_mut-second_slots.ensures.front_len);
+      arranged = ∣ arranged_none _ _ _ _ f.notes s.notes ∣₁;
+    }

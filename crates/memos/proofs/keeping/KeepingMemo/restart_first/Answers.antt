@@ -4,29 +4,20 @@ use Rattle.memos.proofs.Arranged.{arranged_out}
 use Rattle.memos.proofs.Turning.{first_arranged, first_sound, first_holding}
 use Rattle.memos.proofs.keeping.KeepingMemo.restart_first.Goals as goal
 
-pub invariant-of-self : goal.invariant-of-self
-invariant-of-self c =
+pub invariant_of-self : goal.invariant_of-self
+invariant_of-self c =
     let m = c.args.self.now in
     let e = c.restart.ensures in
-    let stuck = c.requires.0 in (
-      e.ready.sound,
-      (
-        e.ready.roomy,
-        (
-          m.second_sound,
-          (
-            m.second_roomy,
-            (
-              omega (arith, e.room, m.larger),
-              (
-                omega (arith, e.room, m.even),
-                (∣ first_arranged c.args.question c.args.answer m.current m.whole _ _ _ _ (arranged_out m.current m.arranged) stuck.crowded stuck.unasked _ e.notes _ ∣₁, tt),
-              ),
-            ),
-          ),
-        ),
-      ),
-    )
+    let stuck = c.requires.0 in
+    record {
+      first_sound = e.ready.sound;
+      first_roomy = e.ready.roomy;
+      second_sound = m.second_sound;
+      second_roomy = m.second_roomy;
+      larger = omega (arith, e.room, m.larger);
+      even = omega (arith, e.room, m.even);
+      arranged = ∣ first_arranged c.args.question c.args.answer m.current m.whole _ _ _ _ (arranged_out m.current m.arranged) stuck.crowded stuck.unasked _ e.notes _ ∣₁;
+    }
 
 pub returns : goal.returns
 returns c =

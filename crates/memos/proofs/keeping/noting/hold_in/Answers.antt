@@ -7,8 +7,8 @@ returns c =
     let told = c.if-replace.ensures in
     record {
       ready = c.put.ensures.ready;
-      ready-other = told.ready;
+      ready_other = told.ready;
       shared = shared_put c.args.question c.args.answer c.put.result _ _ _ _ _ (sym told.asked) told.notes c.put.ensures.put;
       room = c.put.ensures.room;
-      room-other = told.room;
+      room_other = told.room;
     }

@@ -1,5 +1,5 @@
-use Rattle.std.proofs.Common.{◌≡◌, ◌-◌, ◌<◌, ◌∷◌, sym, ap, ◌∙◌, subst, arith}
-use Rattle.rules.specs.Levels.{level, levels, Roomy, added}
+use Rattle.std.proofs.Common.{◌-◌, ◌<◌, ◌∷◌, sym, ap, ◌∙◌, subst, arith}
+use Rattle.rules.specs.Levels.{level, Roomy, added}
 use Rattle.rules.proofs.OpenLists.{roomy_some}
 use Rattle.rules.proofs.Stack.{newest, newest_pop, newest_change}
 use Rattle.rules.proofs.nest.Nest.add.Goals as goal

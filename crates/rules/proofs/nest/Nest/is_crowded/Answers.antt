@@ -1,4 +1,4 @@
-use Rattle.std.proofs.Common.{◌≡◌, ◌-◌, leb, get_or, sym, ap, ◌∙◌, arith}
+use Rattle.std.proofs.Common.{◌-◌, leb, get_or, sym, ap, ◌∙◌, arith}
 use Rattle.rules.specs.Levels.{level, crowded}
 use Rattle.rules.proofs.OpenLists.{length_places}
 use Rattle.rules.proofs.Stack.{newest_pop}

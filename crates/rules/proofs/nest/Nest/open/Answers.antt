@@ -1,4 +1,4 @@
-use Rattle.std.proofs.Common.{◌≡◌, ◌∷◌, ap, ◌∙◌, arith}
+use Rattle.std.proofs.Common.{◌∷◌, ap, ◌∙◌, arith}
 use Rattle.rules.specs.Levels.{level, levels}
 use Rattle.rules.proofs.Stack.{newest_push, length_newest}
 use Rattle.rules.proofs.nest.Nest.open.Goals as goal

@@ -1,6 +1,5 @@
-use Rattle.std.proofs.Common.{◌≡◌, ap, arith}
+use Rattle.std.proofs.Common.{ap, arith}
 use Rattle.std.proofs.lemmas.List.{take_more_set, length-take-le}
-use Rattle.rules.specs.Levels.{Level}
 use Rattle.rules.proofs.nest.OpenList.add.Goals as goal
 
 pub returns : goal.returns

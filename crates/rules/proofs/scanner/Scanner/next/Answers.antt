@@ -8,8 +8,8 @@ use Rattle.rules.proofs.scanner.Scanner.next.Goals as goal
 pub returns-then-place-text : goal.returns-then-place-text
 returns-then-place-text c =
     let text = c.args.self.now.text.now in
-    let on : ahead text c.args.self.now.at ≡ ahead text c.run-end-place.result = blanks_ahead text _ _ c.run-end-place.ensures in
-    let none : ahead text c.run-end-place.result ≡ [] = end_ahead text _ c.if-place-text.true in
+    let on : ahead text c.args.self.now.at ≡ ahead text c.run_end-place.result = blanks_ahead text _ _ c.run_end-place.ensures in
+    let none : ahead text c.run_end-place.result ≡ [] = end_ahead text _ c.if-place-text.true in
     record {
       text = refl;
       value = ap first (sym (on ∙ none));
@@ -20,12 +20,12 @@ returns-then-place-text c =
 pub returns : goal.returns
 returns c =
     let text = c.args.self.now.text.now in
-    let on : ahead text c.args.self.now.at ≡ ahead text c.run-end-place.result = blanks_ahead text _ _ c.run-end-place.ensures in
-    let cut : ahead text c.args.self.now.at ≡ c.lexeme-of.result ∷ ahead text c.first-end-end.result =
-    on ∙ c.first-end-end.ensures.cut ∙ ap (λ l. l ∷ ahead text c.first-end-end.result) (sym (c.lexeme-of.ensures ∙ ap (λ k. classed k c.run-end-place.result (between c.run-end-place.result c.first-end-end.result text)) c.class-of.ensures)) in
+    let on : ahead text c.args.self.now.at ≡ ahead text c.run_end-place.result = blanks_ahead text _ _ c.run_end-place.ensures in
+    let cut : ahead text c.args.self.now.at ≡ c.lexeme_of.result ∷ ahead text c.first_end-end.result =
+    on ∙ c.first_end-end.ensures.cut ∙ ap (λ l. l ∷ ahead text c.first_end-end.result) (sym (c.lexeme_of.ensures ∙ ap (λ k. classed k c.run_end-place.result (between c.run_end-place.result c.first_end-end.result text)) c.class_of.ensures)) in
     record {
       text = refl;
       value = ap first (sym cut);
       after = ap rest (sym cut);
-      onward = λ _. omega (arith, c.first-end-end.ensures.onward, c.run-end-place.ensures.onward);
+      onward = λ _. omega (arith, c.first_end-end.ensures.onward, c.run_end-place.ensures.onward);
     }

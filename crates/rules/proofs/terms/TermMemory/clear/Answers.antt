@@ -5,8 +5,12 @@ use Rattle.rules.specs.TermKeys.{tree}
 use Rattle.rules.proofs.TermTrees.{rooted_none}
 use Rattle.rules.proofs.terms.TermMemory.clear.Goals as goal
 
-pub invariant-of-self : goal.invariant-of-self
-invariant-of-self c = (c.clear.ensures.sound, (rooted_none _ c.clear.ensures.held, tt))
+pub invariant_of-self : goal.invariant_of-self
+invariant_of-self c =
+    record {
+      sound = c.clear.ensures.sound;
+      rooted = rooted_none _ c.clear.ensures.held;
+    }
 
 pub returns : goal.returns
 returns c = record { view = λ i. record { terms = (ap (decode tree) c.clear.ensures.held ∙ decode_none tree) i; room = c.clear.ensures.capacity i; over = false } }

@@ -14,9 +14,9 @@ returns c = record {
       let w = c.args.w in
       let long : length items ≡ length es = all_at_length (view c.args.self.now) items es s in
       let even : length es % w ≡ 0 = subst (λ n. n % w ≡ 0) long c.requires.3 in
-      let some = c.least-of-rows-some.ensures.made es s in
-      let each = c.least-of-rows-each.ensures.made es (all_at_kept some.adds items es s) in
+      let some = c.least_of_rows-some.ensures.made es s in
+      let each = c.least_of_rows-each.ensures.made es (all_at_kept some.adds items es s) in
       subst (λ t. Makes (view c.args.self.now) (view c.both.new.self) c.both.result t) (ap (λ n. both (least_of 1 (parts w w es)) (least_of (n / w) (parts w 1 es))) long ∙ grid_by_parts w es even)
       (both_makes _ _ some each (c.both.ensures.made _ _ (each.adds.kept _ _ some.at) each.at));
-  room = c.both.ensures.room ∙ c.least-of-rows-each.ensures.room ∙ c.least-of-rows-some.ensures.room;
+  room = c.both.ensures.room ∙ c.least_of_rows-each.ensures.room ∙ c.least_of_rows-some.ensures.room;
 }

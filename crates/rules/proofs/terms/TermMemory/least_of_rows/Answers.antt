@@ -6,8 +6,8 @@ use Rattle.rules.proofs.LaidOut.{row_within, length_parts, parts_more}
 use Rattle.rules.proofs.Making.{adds_makes, all_at_kept, all_at_length, all_at_take, all_at_drop, all_at_full}
 use Rattle.rules.proofs.terms.TermMemory.least_of_rows.Goals as goal
 
-pub row-of-requires : goal.row-of-requires
-row-of-requires c = (c.requires.laid_out.0, row_within (length c.args.items.now) c.args.w c.loop-r.r c.requires.laid_out.2 c.loop-r-test.true)
+pub row_of-requires : goal.row_of-requires
+row_of-requires c = (c.requires.laid_out.0, row_within (length c.args.items.now) c.args.w c.loop-r.r c.requires.laid_out.2 c.loop-r-test.true)
 
 pub least-requires : goal.least-requires
 least-requires c =
@@ -25,7 +25,7 @@ loop-r-preserved c = (
       let count = subst (λ n. (c.args.outer ≤ n / w) × (r < n / w)) (all_at_length (view c.args.self.now) items es s) (c.requires.counts.3, c.loop-r-test.true) in
       let before = c.loop-r.invariant.2 es s in
       let standing = all_at_kept before.0 items es s in
-      let row = subst (λ ps. AllAt (view c.loop-r.self) ps (take w (drop (r * w) es))) (sym c.row-of.ensures.value) (all_at_take (view c.loop-r.self) w (drop (r * w) items) (drop (r * w) es) (all_at_drop (view c.loop-r.self) (r * w) items es standing)) in
+      let row = subst (λ ps. AllAt (view c.loop-r.self) ps (take w (drop (r * w) es))) (sym c.row_of.ensures.value) (all_at_take (view c.loop-r.self) w (drop (r * w) items) (drop (r * w) es) (all_at_drop (view c.loop-r.self) (r * w) items es standing)) in
       parts_more c.loop-r.places w c.args.inner c.args.outer r c.least.result es c.requires.counts.2 count.0 count.1 (omega (arith, div-le_self (length items) w)) before (c.least.ensures.made (take w (drop (r * w) es)) row)),
 )
 

@@ -1,4 +1,4 @@
-use Rattle.std.proofs.Common.{◌≡◌, ℕ, List, length, Ok, Err, Result, sym, refl, subst}
+use Rattle.std.proofs.Common.{ℕ, List, length, Ok, Err, Result, sym, refl, subst}
 use Rattle.interning.specs.declared.interner.Full.{Full}
 use Rattle.interning.specs.Decode.{decode, Rooted}
 use Rattle.interning.specs.Interned.{Interned}
@@ -24,15 +24,21 @@ module _ (m : TermMemory) where
   lifted k r ks names interned =
       decode_interned readable (held m.interner) k (rooted_out _ m.rooted) (held_apart m.interner m.sound) (below k names) _ r ks interned
 
-pub invariant-of-self : goal.invariant-of-self
-invariant-of-self c =
+pub invariant_of-self : goal.invariant_of-self
+invariant_of-self c =
     let m = c.args.self.now in
-    (c.in-Ok.ensures.sound m.sound, (rooted_placed _ _ _ _ _ m.rooted (below m _ (c.if-not-names.ensures.0 refl)) (c.in-Ok.ensures.interned m.sound), tt))
+    record {
+      sound = c.in-Ok.ensures.sound m.sound;
+      rooted = rooted_placed _ _ _ _ _ m.rooted (below m _ (c.if-not-names.ensures.0 refl)) (c.in-Ok.ensures.interned m.sound);
+    }
 
-pub invariant-of-self-in-Err : goal.invariant-of-self-in-Err
-invariant-of-self-in-Err c =
+pub invariant_of-self-in-Err : goal.invariant_of-self-in-Err
+invariant_of-self-in-Err c =
     let m = c.args.self.now in
-    (c.in-Err.ensures.sound m.sound, (subst (λ ks. ∥ Rooted NamesBelow ks ∥₁) (sym (c.in-Err.ensures.interned m.sound).same) m.rooted, tt))
+    record {
+      sound = c.in-Err.ensures.sound m.sound;
+      rooted = subst (λ ks. ∥ Rooted NamesBelow ks ∥₁) (sym (c.in-Err.ensures.interned m.sound).same) m.rooted;
+    }
 
 pub returns-in-Ok : goal.returns-in-Ok
 returns-in-Ok c = record {

@@ -5,10 +5,13 @@ use Rattle.diagrams.proofs.solve.stack.Stack.push.Goals as goal
 pub bounds-self-depth : goal.bounds-self-depth
 bounds-self-depth c = omega (arith, pending_length c.args.self.now)
 
-pub invariant-of-self : goal.invariant-of-self
-invariant-of-self c =
+pub invariant_of-self : goal.invariant_of-self
+invariant_of-self c =
     let s = c.args.self.now in
-    (omega (arith, pending_length s), (length-set s.frames s.depth c.args.newest ∙ s.size, tt))
+    record {
+      within = omega (arith, pending_length s);
+      size = length-set s.frames s.depth c.args.newest ∙ s.size;
+    }
 
 pub returns : goal.returns
 returns c =

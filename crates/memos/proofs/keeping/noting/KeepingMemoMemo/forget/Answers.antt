@@ -2,8 +2,16 @@ use Rattle.std.proofs.Common.{arith}
 use Rattle.memos.proofs.Arranged.{arranged_none}
 use Rattle.memos.proofs.keeping.noting.KeepingMemoMemo.forget.Goals as goal
 
-pub invariant-of-self : goal.invariant-of-self
-invariant-of-self c =
+pub invariant_of-self : goal.invariant_of-self
+invariant_of-self c =
     let f = c.clear.ensures in
     let s = c.clear-2.ensures in
-    (f.ready.sound, (f.ready.roomy, (s.ready.sound, (s.ready.roomy, (omega (arith, f.room, s.room, c.args.self.now.larger), (omega (arith, f.room, s.room, c.args.self.now.even), (∣ arranged_none _ _ _ _ f.notes s.notes ∣₁, tt)))))))
+    record {
+      first_sound = f.ready.sound;
+      first_roomy = f.ready.roomy;
+      second_sound = s.ready.sound;
+      second_roomy = s.ready.roomy;
+      larger = omega (arith, f.room, s.room, c.args.self.now.larger);
+      even = omega (arith, f.room, s.room, c.args.self.now.even);
+      arranged = ∣ arranged_none _ _ _ _ f.notes s.notes ∣₁;
+    }

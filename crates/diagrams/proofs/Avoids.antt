@@ -1,7 +1,7 @@
 -- The first group that shares no member with a given one: of a node it is one with its member, if that is left out and high has any, or else one without.
 use Rattle.std.proofs.Common.{◌≡◌, ℕ, ◌+◌, ◌^◌, ◌<◌, Bool, true, false, cond, not, ◌&&◌, ◌||◌, eqb, ◌≢◌, ◌↔◌, List, [], ◌∷◌, ◌++◌, map, length, get_or, set, Some, None, Option, sym, refl, ap, ◌∙◌, subst, arith, get_or-set_other, get_or-set_same, below_more}
 use lib.Bits.{bit_and, and_le_r}
-use Rattle.std.specs.List.{AllByRecursion as All}
+use Rattle.std.specs.List.{AllByRecursion}
 use Rattle.std.proofs.lemmas.Bool.{eqb-true, eq-eqb, and_from, and_parts, both_ways}
 use Rattle.interning.specs.Model.{held}
 use Rattle.interning.specs.Places.{Stands}
@@ -98,18 +98,18 @@ with_more true true w x o = refl
 with_more true false w x o = refl
 with_more false b w x o = refl
 
-first_map : (g v : ℕ) → Member v → (xs : List ℕ) → All (λ n. n < weight v) xs → first_avoiding g (map (λ x. weight v + x) xs) ≡ with_member (apart g (weight v)) (weight v) (first_avoiding g xs)
+first_map : (g v : ℕ) → Member v → (xs : List ℕ) → AllByRecursion (λ n. n < weight v) xs → first_avoiding g (map (λ x. weight v + x) xs) ≡ with_member (apart g (weight v)) (weight v) (first_avoiding g xs)
 first_map g v p [] all = with_none (apart g (weight v)) (weight v)
 first_map g v p (x ∷ xs) all =
     ap (λ b. cond b (Some (weight v + x)) (first_avoiding g (map (λ y. weight v + y) xs))) (apart_add g v x p all.0)
     ∙ ap (λ o. cond (apart g (weight v) && apart g x) (Some (weight v + x)) o) (first_map g v p xs all.1)
     ∙ with_more (apart g (weight v)) (apart g x) (weight v) x (first_avoiding g xs)
 
-first_node : (g v : ℕ) (l h : Tree) → Member v → All (λ n. n < weight v) (groups h) → first_avoiding g (groups (node v l h)) ≡ or_else (with_member (apart g (weight v)) (weight v) (first_avoiding g (groups h))) (first_avoiding g (groups l))
+first_node : (g v : ℕ) (l h : Tree) → Member v → AllByRecursion (λ n. n < weight v) (groups h) → first_avoiding g (groups (node v l h)) ≡ or_else (with_member (apart g (weight v)) (weight v) (first_avoiding g (groups h))) (first_avoiding g (groups l))
 first_node g v l h p all = first_append g (map (λ x. weight v + x) (groups h)) (groups l) ∙ ap (λ o. or_else o (first_avoiding g (groups l))) (first_map g v p (groups h) all)
 
 -- what is found keeps a bound of the list
-first_less : (g n w : ℕ) (xs : List ℕ) → All (λ x. x < w) xs → Some n ≡ first_avoiding g xs → n < w
+first_less : (g n w : ℕ) (xs : List ℕ) → AllByRecursion (λ x. x < w) xs → Some n ≡ first_avoiding g xs → n < w
 first_less g n w [] all e = let no_way : ◌≡◌ {A = ℕ} 0 1 = cc in absurd (omega arith)
 first_less g n w (x ∷ xs) all e = go (apart g x) e (first_less g n w xs all.1)
   where
@@ -157,7 +157,7 @@ module _ (m : NodeMemory) (p : ℕ) (k : Node) (stands : Stands (held m.interner
   member_fits : Member k.member
   member_fits = node_good.fits.1
 
-  high_below : All (λ n. n < weight k.member) (groups (tree_at (trees m) k.high))
+  high_below : AllByRecursion (λ n. n < weight k.member) (groups (tree_at (trees m) k.high))
   high_below = groups_below k.member (tree_at (trees m) k.high) node_good.high
 
   place_first : first_avoiding g (groups (get_or (trees m) p none)) ≡ or_else (with_member (apart g (weight k.member)) (weight k.member) (first_avoiding g (groups (tree_at (trees m) k.high)))) (first_avoiding g (groups (tree_at (trees m) k.low)))

@@ -1,7 +1,7 @@
 -- Counting: a falling list of numbers below n has at most n entries, and the groups of a node are those of its two parts.
 use Rattle.std.proofs.Common.{◌≡◌, ℕ, ◌+◌, ◌^◌, ◌<◌, ◌≤◌, ◌≢◌, List, [], ◌∷◌, length, get_or, set, refl, ap, arith, length-append, get_or-set_other, get_or-set_same, below_more}
 use lib.ListN.{length-map}
-use Rattle.std.specs.List.{AllByRecursion as All}
+use Rattle.std.specs.List.{AllByRecursion}
 use Rattle.interning.specs.Model.{held}
 use Rattle.interning.specs.Places.{Stands}
 use Rattle.interning.proofs.Decode.{length_decode}
@@ -19,7 +19,7 @@ use Rattle.diagrams.specs.Memory.{trees}
 use Rattle.diagrams.specs.Counting.{Numbered, number_at}
 use Rattle.diagrams.proofs.Memories.{memory_proper, place_names, place_tree}
 
-falling_short : (n : ℕ) (ns : List ℕ) → All (λ m. m < n) ns → Falling ns → length ns ≤ n
+falling_short : (n : ℕ) (ns : List ℕ) → AllByRecursion (λ m. m < n) ns → Falling ns → length ns ≤ n
 falling_short n [] all falling = omega arith
 falling_short n (x ∷ xs) all falling = omega (arith, all.0, falling_short x xs falling.0 falling.1)
 

@@ -4,13 +4,13 @@ use mathlib.Core.HLevel.{×_prop}
 use mathlib.Core.Bool.{Bool-set}
 use mathlib.Core.Logic.{∥∥₁_elim}
 use native.Mathlib.Bridge.{le_prop}
-use Rattle.std.specs.List.{AllByRecursion as All}
+use Rattle.std.specs.List.{AllByRecursion}
 use Rattle.interning.specs.Places.{Each}
 use Rattle.families.specs.Groups.{holds}
 use Rattle.families.specs.Trees.{Tree, none, always, node, passes, groups, is_none, is_always}
 use Rattle.families.specs.Good.{Good, Proper}
 
-all_prop : (P : ℕ → Type 0) → ((n : ℕ) → IsProp (P n)) → (ns : List ℕ) → IsProp (All P ns)
+all_prop : (P : ℕ → Type 0) → ((n : ℕ) → IsProp (P n)) → (ns : List ℕ) → IsProp (AllByRecursion P ns)
 all_prop P p [] = λ x y. refl
 all_prop P p (n ∷ ns) = ×_prop (p n) (all_prop P p ns)
 

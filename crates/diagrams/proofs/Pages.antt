@@ -4,7 +4,7 @@ use borrow.Rule.Slice.PartMut.{put_mid}
 use Rattle.std.proofs.lemmas.List.{take_all, take_at, drop-drop}
 use Rattle.std.proofs.lemmas.Slice.{drop-append-drop}
 use Rattle.std.proofs.lemmas.Bool.{ltb-true, ltb-false, lt-ltb, le-ltb}
-use Rattle.std.specs.List.{AllByRecursion as All}
+use Rattle.std.specs.List.{AllByRecursion}
 use Rattle.families.specs.Groups.{Falling}
 use Rattle.families.proofs.Kept.{kept_all}
 use Rattle.diagrams.specs.Listing.{first_below, group_bytes, below, page, page_bytes, Listed}
@@ -16,7 +16,7 @@ pub record Paged (n : ℕ) (gs bytes : List ℕ) (i bound : ℕ) (bytes' : List 
   pub enough : i ≤ length (below n gs)
   pub written : bytes' ≡ page_bytes (take i (below n gs)) ++ drop (8 * i) bytes
 
-all_below : (x n : ℕ) (xs : List ℕ) → x ≤ n → All (λ m. m < x) xs → All (λ m. ltb m n ≡ true) xs
+all_below : (x n : ℕ) (xs : List ℕ) → x ≤ n → AllByRecursion (λ m. m < x) xs → AllByRecursion (λ m. ltb m n ≡ true) xs
 all_below x n [] l a = tt
 all_below x n (y ∷ ys) l a = (lt-ltb y n (omega (arith, a.0)), all_below x n ys l a.1)
 

@@ -1,6 +1,6 @@
 -- What is kept of a list.
 use Rattle.std.proofs.Common.{◌≡◌, ℕ, Bool, true, false, cond, ◌&&◌, eqb, List, [], ◌∷◌, ◌++◌, map, filter, refl, ap, ◌∙◌, arith}
-use Rattle.std.specs.List.{AllByRecursion as All}
+use Rattle.std.specs.List.{AllByRecursion}
 use Rattle.std.proofs.lemmas.Bool.{eqb-true, cond_both}
 use Rattle.families.specs.Sets.{has}
 
@@ -11,15 +11,15 @@ has_kept p (x ∷ xs) n =
     let q : eqb n x ≡ true → p n ≡ p x = λ h. ap p (eqb-true n x h) in
     cond_both (p x) (x ∷ filter p xs) (filter p xs) (λ ys. has ys n ≡ (has (x ∷ xs) n && p n)) (λ h. grind arith) (λ h. grind arith)
 
-pub kept_same : (p q : ℕ → Bool) (xs : List ℕ) → All (λ n. p n ≡ q n) xs → filter p xs ≡ filter q xs
+pub kept_same : (p q : ℕ → Bool) (xs : List ℕ) → AllByRecursion (λ n. p n ≡ q n) xs → filter p xs ≡ filter q xs
 kept_same p q [] a = refl
 kept_same p q (x ∷ xs) a = ap (λ z. cond z (x ∷ filter p xs) (filter p xs)) a.0 ∙ ap (λ z. cond (q x) (x ∷ z) z) (kept_same p q xs a.1)
 
-pub kept_all : (p : ℕ → Bool) (xs : List ℕ) → All (λ n. p n ≡ true) xs → filter p xs ≡ xs
+pub kept_all : (p : ℕ → Bool) (xs : List ℕ) → AllByRecursion (λ n. p n ≡ true) xs → filter p xs ≡ xs
 kept_all p [] a = refl
 kept_all p (x ∷ xs) a = ap (λ z. cond z (x ∷ filter p xs) (filter p xs)) a.0 ∙ ap (λ z. x ∷ z) (kept_all p xs a.1)
 
-pub kept_none : (p : ℕ → Bool) (xs : List ℕ) → All (λ n. p n ≡ false) xs → filter p xs ≡ []
+pub kept_none : (p : ℕ → Bool) (xs : List ℕ) → AllByRecursion (λ n. p n ≡ false) xs → filter p xs ≡ []
 kept_none p [] a = refl
 kept_none p (x ∷ xs) a = ap (λ z. cond z (x ∷ filter p xs) (filter p xs)) a.0 ∙ kept_none p xs a.1
 
@@ -39,7 +39,7 @@ kept_kept p q (x ∷ xs) = split (q x) ∙ ap (λ z. cond (q x && p x) (x ∷ z)
     split true = refl
     split false = refl
 
-pub map_same : (f g : ℕ → ℕ) (xs : List ℕ) → All (λ n. f n ≡ g n) xs → map f xs ≡ map g xs
+pub map_same : (f g : ℕ → ℕ) (xs : List ℕ) → AllByRecursion (λ n. f n ≡ g n) xs → map f xs ≡ map g xs
 map_same f g [] a = refl
 map_same f g (x ∷ xs) a = ap (λ z. z ∷ map f xs) a.0 ∙ ap (λ z. g x ∷ z) (map_same f g xs a.1)
 
@@ -51,6 +51,6 @@ pub map_append : (f : ℕ → ℕ) (xs ys : List ℕ) → map f (xs ++ ys) ≡ m
 map_append f [] ys = refl
 map_append f (x ∷ xs) ys = ap (λ z. f x ∷ z) (map_append f xs ys)
 
-pub map_itself : (f : ℕ → ℕ) (xs : List ℕ) → All (λ n. f n ≡ n) xs → map f xs ≡ xs
+pub map_itself : (f : ℕ → ℕ) (xs : List ℕ) → AllByRecursion (λ n. f n ≡ n) xs → map f xs ≡ xs
 map_itself f [] a = refl
 map_itself f (x ∷ xs) a = ap (λ z. z ∷ map f xs) a.0 ∙ ap (λ z. x ∷ z) (map_itself f xs a.1)

@@ -1,6 +1,6 @@
 -- The groups of F that contain no group of G.
 use Rattle.std.proofs.Common.{◌≡◌, ℕ, suc, ◌+◌, ◌<◌, Bool, true, false, not, ◌&&◌, ◌++◌, map, filter, sym, ap, ◌∙◌, subst, ⊎_elim, arith}
-use Rattle.std.specs.List.{AllByRecursion as All}
+use Rattle.std.specs.List.{AllByRecursion}
 use Rattle.std.proofs.lemmas.Bool.{both_ways, cases_Bool, and_parts, and_from, not-true, not_from_false}
 use Rattle.std.proofs.ByRecursion.{All-weaker, kept_by_passes}
 use Rattle.families.specs.Sets.{has}
@@ -21,7 +21,7 @@ pub less_lists : {b : ℕ} (f g r : Tree) → Less b f g r → (n : ℕ) → lis
 less_lists f g r k n e = (and_parts (lists f n) (not (passes g (holds n))) (sym (lists_less f g r k n) ∙ e)).0
 
 pub less_apart : {b : ℕ} (f g r : Tree) → Less b f g r → Apart g r
-less_apart f g r k = subst (All (λ n. passes g (holds n) ≡ false)) (sym k.listed)
+less_apart f g r k = subst (AllByRecursion (λ n. passes g (holds n) ≡ false)) (sym k.listed)
     (All-weaker (λ n. not (passes g (holds n)) ≡ true) (λ n. passes g (holds n) ≡ false) (λ n e. not-true (passes g (holds n)) e) (filter (λ n. not (passes g (holds n))) (groups f)) (kept_by_passes (λ n. not (passes g (holds n))) (groups f)))
 
 -- what F passes and G does not, the rest passes

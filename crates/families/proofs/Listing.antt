@@ -1,6 +1,6 @@
 -- The list of a tree's groups.
 use Rattle.std.proofs.Common.{◌≡◌, ℕ, zero, suc, ◌+◌, ◌<◌, ◌≤◌, true, false, ◌||◌, eqb, ◌⊎◌, List, [], ◌∷◌, ◌++◌, map, sym, refl, ap, ◌∙◌, inl, inr, ⊎_elim, arith}
-use Rattle.std.specs.List.{AllByRecursion as All}
+use Rattle.std.specs.List.{AllByRecursion}
 use Rattle.std.proofs.lemmas.Bool.{eq-eqb, eqb-true, or_cases, or_left, or_right, false≢true}
 use Rattle.std.proofs.ByRecursion.{All-append, All-map, All-weaker}
 use Rattle.families.specs.Sets.{has}
@@ -10,11 +10,11 @@ use Rattle.families.specs.Good.{Good}
 use Rattle.families.proofs.Weights.{weight_pos, weight_step, weight_mono, holds_below}
 
 -- what holds of all of a list, and what holds of each that it has
-pub all_each : (P : ℕ → Type 0) (xs : List ℕ) → All P xs → (n : ℕ) → has xs n ≡ true → P n
+pub all_each : (P : ℕ → Type 0) (xs : List ℕ) → AllByRecursion P xs → (n : ℕ) → has xs n ≡ true → P n
 all_each P [] a n e = absurd (false≢true e)
 all_each P (x ∷ xs) a n e = ⊎_elim (λ h. rw (eqb-true n x h) a.0) (λ h. all_each P xs a.1 n h) (or_cases (eqb n x) (has xs n) e)
 
-pub each_all : (P : ℕ → Type 0) (xs : List ℕ) → ((n : ℕ) → has xs n ≡ true → P n) → All P xs
+pub each_all : (P : ℕ → Type 0) (xs : List ℕ) → ((n : ℕ) → has xs n ≡ true → P n) → AllByRecursion P xs
 each_all P [] h = tt
 each_all P (x ∷ xs) h = (h x (or_left (eqb x x) (has xs x) (eq-eqb x x refl)), each_all P xs (λ n e. h n (or_right (eqb n x) (has xs n) e)))
 
@@ -56,7 +56,7 @@ some_group b none k e = absurd (false≢true (sym e))
 some_group b always k e = (0, refl)
 some_group b (node v l h) k e = let r = some_group (suc v) h k.high k.some in (weight v + r.0, lists_high v l h r.0 r.1)
 
-pub groups_below : (v : ℕ) (t : Tree) → Good (suc v) t → All (λ n. n < weight v) (groups t)
+pub groups_below : (v : ℕ) (t : Tree) → Good (suc v) t → AllByRecursion (λ n. n < weight v) (groups t)
 groups_below v none k = tt
 groups_below v always k = (weight_pos v, tt)
 groups_below v (node u l h) k =
@@ -84,7 +84,7 @@ pub lists_above : (b : ℕ) (t : Tree) (n u : ℕ) → Good b t → lists t n �
 lists_above zero t n u k e p = absurd (omega arith)
 lists_above (suc w) t n u k e p = let q = lists_below w t n k e in let m = weight_mono u w (omega arith) in holds_below n u (omega arith)
 
-falling_append : (xs ys : List ℕ) (w : ℕ) → Falling xs → Falling ys → All (λ n. w ≤ n) xs → All (λ n. n < w) ys → Falling (xs ++ ys)
+falling_append : (xs ys : List ℕ) (w : ℕ) → Falling xs → Falling ys → AllByRecursion (λ n. w ≤ n) xs → AllByRecursion (λ n. n < w) ys → Falling (xs ++ ys)
 falling_append [] ys w f g a b = g
 falling_append (x ∷ xs) ys w f g a b =
     (All-append (λ m. m < x) xs ys f.0 (All-weaker (λ n. n < w) (λ n. n < x) (λ n h. let q = a.0 in omega arith) ys b), falling_append xs ys w f.1 g a.1 b)
@@ -93,7 +93,7 @@ falling_map : (w : ℕ) (xs : List ℕ) → Falling xs → Falling (map (λ n. w
 falling_map w [] f = tt
 falling_map w (x ∷ xs) f = (All-map (λ m. m < w + x) (λ n. w + n) xs (All-weaker (λ m. m < x) (λ m. w + m < w + x) (λ m h. omega arith) xs f.0), falling_map w xs f.1)
 
-all_from : (w : ℕ) (xs : List ℕ) → All (λ n. w ≤ n) (map (λ n. w + n) xs)
+all_from : (w : ℕ) (xs : List ℕ) → AllByRecursion (λ n. w ≤ n) (map (λ n. w + n) xs)
 all_from w [] = tt
 all_from w (x ∷ xs) = (omega arith, all_from w xs)
 

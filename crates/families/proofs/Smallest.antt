@@ -1,6 +1,6 @@
 -- No group of a tree contains another, so its groups are the smallest that pass.
 use Rattle.std.proofs.Common.{◌≡◌, ℕ, suc, ◌+◌, ◌<◌, ◌≤◌, true, false, eqb, ◌↔◌, List, [], ◌∷◌, sym, refl, ap, ◌∙◌, subst, ⊎_elim, arith}
-use Rattle.std.specs.List.{AllByRecursion as All}
+use Rattle.std.specs.List.{AllByRecursion}
 use Rattle.std.proofs.lemmas.Bool.{eqb-true, or_cases, or_left, or_right, both_ways, false≢true, ne_eqb, eq-eqb}
 use Rattle.families.specs.Sets.{has, Inside}
 use Rattle.families.specs.Groups.{Falling, Member, weight, holds, Group}
@@ -75,14 +75,14 @@ pub listed_falling : GroupsFalling
 listed_falling t k = groups_falling 1 t k
 
 -- falling lists with the same numbers are one
-has_below : (w : ℕ) (xs : List ℕ) (n : ℕ) → All (λ m. m < w) xs → has xs n ≡ true → n < w
+has_below : (w : ℕ) (xs : List ℕ) (n : ℕ) → AllByRecursion (λ m. m < w) xs → has xs n ≡ true → n < w
 has_below w xs n a e = all_each (λ m. m < w) xs a n e
 
 head_below : (x y : ℕ) (ys : List ℕ) → Falling (y ∷ ys) → has (y ∷ ys) x ≡ true → x ≤ y
 head_below x y ys f e = ⊎_elim (λ h. let q = eqb-true x y h in omega arith) (λ h. let q = has_below y ys x f.0 h in omega arith) (or_cases (eqb x y) (has ys x) e)
 
 -- what stands in the one list stands in the other, if not as its head
-tail_has : (x y : ℕ) (xs ys : List ℕ) → x ≡ y → All (λ m. m < x) xs → ((n : ℕ) → has (x ∷ xs) n ≡ has (y ∷ ys) n) → (n : ℕ) → has xs n ≡ true → has ys n ≡ true
+tail_has : (x y : ℕ) (xs ys : List ℕ) → x ≡ y → AllByRecursion (λ m. m < x) xs → ((n : ℕ) → has (x ∷ xs) n ≡ has (y ∷ ys) n) → (n : ℕ) → has xs n ≡ true → has ys n ≡ true
 tail_has x y xs ys d a e n h =
     let b = has_below x xs n a h in
     only_right (eqb n y) (has ys n) (ne_eqb n y (λ r. omega arith)) (sym (e n) ∙ or_right (eqb n x) (has xs n) h)

@@ -1,6 +1,6 @@
 -- What is built and asked on the way to an answer.
 use Rattle.std.proofs.Common.{◌≡◌, ℕ, zero, suc, ◌<◌, ◌≤◌, List, [], ◌∷◌, map, length, sym, refl, ap, ◌∙◌, subst, ⊎_elim, arith}
-use Rattle.std.specs.List.{AllByRecursion as All}
+use Rattle.std.specs.List.{AllByRecursion}
 use Rattle.std.proofs.ByRecursion.{All-append, All-weaker, has_append_left, has_append_right}
 use Rattle.families.specs.Groups.{Falling}
 use Rattle.families.specs.Trees.{Tree, none, always, node, build}
@@ -17,9 +17,9 @@ use Rattle.families.proofs.Solving.{outcome_unfolds, answers_good, good_ask_memb
 
 -- what holds of the nodes and of the questions of an outcome
 abbrev Sound : Outcome → Type 0
-Sound o = All Proper o.built × All (λ p. GoodAsk 1 p × (sight p ≡ opens)) o.asked
+Sound o = AllByRecursion Proper o.built × AllByRecursion (λ p. GoodAsk 1 p × (sight p ≡ opens)) o.asked
 
-made_nodes : (b v : ℕ) (l h : Tree) → Good b (build v l h) → All Proper (made v l h)
+made_nodes : (b v : ℕ) (l h : Tree) → Good b (build v l h) → AllByRecursion Proper (made v l h)
 made_nodes b v l none k = tt
 made_nodes b v l always k = (record { good = good_member b (node v l always) k; some = refl; more = refl }, tt)
 made_nodes b v l (node w a c) k = (record { good = good_member b (node v l (node w a c)) k; some = refl; more = refl }, tt)

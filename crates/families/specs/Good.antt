@@ -1,6 +1,6 @@
 -- Good trees: those of families, in which no group contains another.
 use Rattle.std.specs.Prelude.{◌≡◌, ℕ, suc, ◌≤◌, Bool, true, false, ◌||◌, ◌==◌}
-use Rattle.std.specs.List.{AllByRecursion as All}
+use Rattle.std.specs.List.{AllByRecursion}
 use Rattle.families.specs.Groups.{Member, holds}
 use Rattle.families.specs.Trees.{Tree, none, always, node, passes, groups, is_none, is_always}
 
@@ -10,7 +10,7 @@ Fits b v = (b ≤ v) × Member v
 
 -- no group of high contains a group of low
 abbrev pub Apart : Tree → Tree → Type 0
-Apart low high = All (λ n. passes low (holds n) ≡ false) (groups high)
+Apart low high = AllByRecursion (λ n. passes low (holds n) ≡ false) (groups high)
 
 -- members rise downward from b on, no high is none, and no group contains another
 abbrev pub Good : ℕ → Tree → Type 0

@@ -1,6 +1,6 @@
 -- Groups of members, and their numbers.
 use Rattle.std.specs.Prelude.{◌≡◌, ℕ, zero, suc, ◌+◌, ◌-◌, ◌/◌, ◌%◌, ◌^◌, ◌<◌, ◌≤◌, Bool, cond, ◌&&◌, List, [], ◌∷◌, ◌==◌, nat_le}
-use Rattle.std.specs.List.{AllByRecursion as All}
+use Rattle.std.specs.List.{AllByRecursion}
 
 -- v is a member
 abbrev pub Member : ℕ → Type 0
@@ -34,7 +34,7 @@ number g = total 48 g
 -- each of the list is below those before it, so none stands twice
 abbrev pub Falling : List ℕ → Type 0
 Falling [] = Unit {0}
-Falling (n ∷ ns) = All (λ m. m < n) ns × Falling ns
+Falling (n ∷ ns) = AllByRecursion (λ m. m < n) ns × Falling ns
 
 -- a group and its number give each other back
 pub record Numbering : Type 0 where

@@ -1,6 +1,6 @@
 -- What can be said of the workings of a question: its outcome unfolds, what it builds and asks is good, and few questions are open together.
 use Rattle.std.specs.Prelude.{◌≡◌, ℕ, suc, ◌≤◌, ◌⊎◌, List, [], ◌∷◌, map, length}
-use Rattle.std.specs.List.{ContainsAt as Has, AllByRecursion as All}
+use Rattle.std.specs.List.{ContainsAt as Has, AllByRecursion}
 use Rattle.families.specs.Groups.{Falling}
 use Rattle.families.specs.Trees.{Tree}
 use Rattle.families.specs.Good.{Proper}
@@ -15,11 +15,11 @@ Unfolding = (q : Ask) → GoodAsk 1 q → outcome q ≡ by_sight (sight q) (open
 
 -- every node that is built is a good tree, with members from 1 to 48
 abbrev pub BuiltGood : Type 0
-BuiltGood = (q : Ask) → GoodAsk 1 q → All Proper (outcome q).built
+BuiltGood = (q : Ask) → GoodAsk 1 q → AllByRecursion Proper (outcome q).built
 
 -- every question that is opened is good, and is not answered at sight
 abbrev pub AskedGood : Type 0
-AskedGood = (q : Ask) → GoodAsk 1 q → All (λ p. GoodAsk 1 p × (sight p ≡ opens)) (outcome q).asked
+AskedGood = (q : Ask) → GoodAsk 1 q → AllByRecursion (λ p. GoodAsk 1 p × (sight p ≡ opens)) (outcome q).asked
 
 -- the script, rightly answered, asks p
 abbrev pub Puts : Script → Ask → Type 0

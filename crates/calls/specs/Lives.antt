@@ -1,5 +1,5 @@
 -- The life of a bench: its opening, and any calls after it, let in or denied.
-use Rattle.std.specs.Prelude.{◌≡◌, ℕ, List, [], ◌∷◌, Ok, Err, Result}
+use Rattle.std.specs.Prelude.{◌≡◌, List, [], ◌∷◌, Ok, Err, Result}
 use Rattle.calls.specs.declared.answer.Answer.{Answer}
 use Rattle.calls.specs.declared.answer.Answer.TheVariants.{Done, Same, Count, Verdict as Judging, Groups, Tally, Sheet}
 use Rattle.calls.specs.declared.answer.Verdict.TheVariants.{Nondominated, Dominated, Clash}

@@ -1,5 +1,5 @@
 -- What passes on a shelf after a call that is let in, by what passed before it.
-use Rattle.std.specs.Prelude.{◌≡◌, ℕ, Bool, true, false, ◌&&◌, ◌||◌, ◌↔◌, Ok, ◌≢◌}
+use Rattle.std.specs.Prelude.{◌≡◌, ℕ, Bool, false, ◌&&◌, ◌||◌, ◌↔◌, Ok, ◌≢◌}
 use Rattle.rules.specs.Rules as rule
 use Rattle.rules.specs.Reading.{reading}
 use Rattle.families.specs.Sets.{counting}

@@ -1,5 +1,5 @@
 -- The sizes of a bench, its sixteen shelves, and which groups pass on a shelf.
-use Rattle.std.specs.Prelude.{◌≡◌, ℕ, ◌<◌, ◌≤◌, Bool, true, false, List, [], ◌∷◌, ◌++◌, length, set, replicate, Some, None, Option, slice_index_or, slice_set}
+use Rattle.std.specs.Prelude.{◌≡◌, ℕ, ◌<◌, ◌≤◌, Bool, true, false, List, [], ◌∷◌, ◌++◌, length, replicate, Some, None, Option, slice_index_or, slice_set}
 use Rattle.families.specs.Sets.{Meet}
 use Rattle.families.specs.Groups.{Group, holds}
 use Rattle.families.specs.Trees.{Tree, none, passes}

@@ -1,5 +1,5 @@
 -- What a call works out: its family, and its workings, the nodes built and the questions opened on the way.
-use Rattle.std.specs.Prelude.{ℕ, cond, List, [], ◌∷◌, Some, None, Ok, Err, Option, Result}
+use Rattle.std.specs.Prelude.{ℕ, cond, [], ◌∷◌, Some, None, Ok, Err, Option, Result}
 use Rattle.rules.specs.declared.faults.RuleFault.{RuleFault}
 use Rattle.rules.specs.Terms as term
 use Rattle.rules.specs.Outcome as rule

@@ -1,6 +1,6 @@
 //! What is said of a rule, by the reading or by the press.
 ghost use Rattle.std.specs.Prelude.{◌≡◌, MatchResult};
-ghost use Rattle.rules.specs.Faults.{number as number_of_lem, place as place_of};
+ghost use Rattle.rules.specs.Faults.{number as number_of, place as place_of};
 
 use rules::faults::RuleFault;
 use std::fmt;
@@ -15,7 +15,7 @@ pub enum Verdict {
 impl Verdict {
     // What the reading says.
     pub(crate) fn of(reading: Result<u32, RuleFault>) -> Verdict
-        ensures { MatchResult reading (λ _. result ≡ Verdict.LetIn) (λ fault. result ≡ Verdict.Denied (number_of_lem fault) (place_of fault)) }
+        ensures { MatchResult reading (λ _. result ≡ Verdict.LetIn) (λ fault. result ≡ Verdict.Denied (number_of fault) (place_of fault)) }
     {
         match reading {
             Ok(_) => Verdict::LetIn,

@@ -1,5 +1,5 @@
 //! Holds the reading of rules to the vectors of an independent press. A line of press.txt has a rule's bytes and the bytes that the press wrote for it, in hex.
-//! `rt check conformance` runs this on a copy of the folder data/ and holds what it prints to the file `stdout`; a line that differs fails the run.
+//! `rt ci` runs this on a copy of the folder data/ and holds what it prints to the file `stdout`; a line that differs fails the run.
 #![tactic(auto)]
 
 mod hex;

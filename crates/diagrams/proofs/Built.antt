@@ -21,7 +21,7 @@ use Rattle.diagrams.specs.Memory.{trees, places}
 use Rattle.diagrams.specs.Building.{Denotes, Placed, Built}
 use Rattle.diagrams.proofs.GoodTrees.{each_out}
 use Rattle.diagrams.proofs.Memories.{memory_each, memory_fits, lifted}
-use Rattle.diagrams.specs.NodeTrees.{Nodal, rooted_placed}
+use Rattle.diagrams.proofs.NodeTrees.{Nodal, rooted_placed}
 
 nodal_some : (t : Tree) → Nodal t → is_none t ≡ false
 nodal_some none p = p

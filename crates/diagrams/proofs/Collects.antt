@@ -20,7 +20,7 @@ use Rattle.diagrams.specs.Building.{Denotes}
 use Rattle.diagrams.specs.Collecting.{nodes_in, reached, Collected, Marked, Marks, Sparing, Covers, ClosedFrom, Moved, moved_as}
 use Rattle.diagrams.proofs.Memories.{memory_each, place_names, place_tree}
 use Rattle.diagrams.proofs.Moves.{name_moved}
-use Rattle.diagrams.specs.NodeTrees.{Nodal, below_rise}
+use Rattle.diagrams.proofs.NodeTrees.{Nodal, below_rise}
 use Rattle.diagrams.proofs.Reached.{reached_from}
 
 -- a diagram of a node has a place of the list

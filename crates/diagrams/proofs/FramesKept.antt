@@ -17,7 +17,7 @@ use Rattle.diagrams.specs.NodeKeys.{Below, tree_of, tree_at}
 use Rattle.diagrams.specs.Building.{Denotes}
 use Rattle.diagrams.specs.Asking.{Asks, OperandsHeld, ask_at}
 use Rattle.diagrams.specs.Frames.{Awaits, HalvesHeld, FrameHeld, continuation}
-use Rattle.diagrams.specs.NodeTrees.{below_rise}
+use Rattle.diagrams.proofs.NodeTrees.{below_rise}
 
 module _ (ts ts' : List Tree) (kept : Kept ts ts') where
   view_kept : (v : View) → Below (length ts) v → tree_of ts' v ≡ tree_of ts v

@@ -12,7 +12,7 @@ use Rattle.families.specs.Outcomes.{made}
 use Rattle.diagrams.specs.Building.{Denotes, Built}
 use Rattle.diagrams.specs.Solving.{Joins}
 use Rattle.diagrams.proofs.Built.{view_some}
-use Rattle.diagrams.specs.NodeTrees.{Nodal}
+use Rattle.diagrams.proofs.NodeTrees.{Nodal}
 use Rattle.diagrams.proofs.Settling.{denotes_in}
 
 -- where high is not none, the one node that is made is what is built

@@ -1,3 +1,4 @@
+pub mod NodeTrees
 pub mod GoodTrees
 pub mod Memories
 pub mod Built

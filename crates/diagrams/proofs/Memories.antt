@@ -19,7 +19,7 @@ use Rattle.diagrams.specs.NodeKeys.{Below, NamesBelow, tree_of, node_tree}
 use Rattle.diagrams.specs.Memory.{trees, places}
 use Rattle.diagrams.specs.Building.{Denotes}
 use Rattle.diagrams.proofs.GoodTrees.{each_out}
-use Rattle.diagrams.specs.NodeTrees.{Nodal, readable, rooted_out, below_rise, seen_told, view_told}
+use Rattle.diagrams.proofs.NodeTrees.{Nodal, readable, rooted_out, below_rise, seen_told, view_told}
 
 view_good : (ts : List Tree) → Each Proper ts → (v : View) → Below (length ts) v → Good 1 (tree_of ts v)
 view_good ts each None b = tt

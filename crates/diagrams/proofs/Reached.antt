@@ -7,7 +7,7 @@ use Rattle.memos.specs.declared.diagram.Diagram.{Diagram}
 use Rattle.families.specs.Trees.{Tree, none, always, node}
 use Rattle.diagrams.specs.NodeKeys.{tree_at}
 use Rattle.diagrams.specs.Collecting.{nodes_in, reached}
-use Rattle.diagrams.specs.NodeTrees.{Nodal}
+use Rattle.diagrams.proofs.NodeTrees.{Nodal}
 
 pub node_itself : (t : Tree) → Nodal t → t ∈ nodes_in t
 node_itself none p = absurd (true≢false p)

@@ -17,7 +17,7 @@ use Rattle.diagrams.specs.declared.solve.stack.Pending.{Pending}
 use Rattle.diagrams.specs.NodeKeys.{Below, tree_of}
 use Rattle.diagrams.specs.Building.{Denotes}
 use Rattle.diagrams.specs.Solving.{Settled, Right, AllRight, Left, Pends, Chain}
-use Rattle.diagrams.specs.NodeTrees.{below_rise}
+use Rattle.diagrams.proofs.NodeTrees.{below_rise}
 use Rattle.diagrams.proofs.FramesKept.{awaits_kept, asks_kept}
 
 -- entries of lists that are joined

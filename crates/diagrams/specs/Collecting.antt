@@ -1,5 +1,5 @@
 -- Throwing out: what given roots reach, and what is held when everything else is thrown out.
-use Rattle.std.specs.Prelude.{◌≡◌, ℕ, ◌<◌, ◌≤◌, Bool, true, false, List, [], ◌∷◌, ◌++◌, length, get_or, take, slice_index_or, slice_set}
+use Rattle.std.specs.Prelude.{◌≡◌, ℕ, ◌<◌, ◌≤◌, Bool, true, false, List, [], ◌∷◌, ◌++◌, length, take, slice_index_or, slice_set}
 use Rattle.interning.specs.Decode.{decode}
 use Rattle.interning.specs.Distinct.{◌∈◌, Within}
 use Rattle.memos.specs.declared.diagram.Diagram.{Diagram}
@@ -46,7 +46,7 @@ marked_by bs (Place p) = slice_set bs p true
 
 -- only places are marked whose trees are among those reached
 abbrev pub Sparing : List Tree → List Diagram → List Bool → Type 0
-Sparing ts roots bs = (p : ℕ) → p < length ts → Marked bs p → get_or ts p none ∈ reached ts roots
+Sparing ts roots bs = (p : ℕ) → p < length ts → Marked bs p → slice_index_or ts p none ∈ reached ts roots
 
 -- the first n roots, as far as they are held, are marked
 abbrev pub Covers : List Tree → List Diagram → ℕ → List Bool → Type 0
@@ -54,7 +54,7 @@ Covers ts roots n bs = (i : ℕ) (d : Diagram) → i < n → Below (length ts) (
 
 -- with a place from n on, the parts of its node are marked
 abbrev pub ClosedFrom : List Node → ℕ → List Bool → Type 0
-ClosedFrom ks n bs = (p : ℕ) (d : Node) → n ≤ p → p < length ks → Marked bs p → Marks bs (seen (get_or ks p d).low) × Marks bs (seen (get_or ks p d).high)
+ClosedFrom ks n bs = (p : ℕ) (d : Node) → n ≤ p → p < length ks → Marked bs p → Marks bs (seen (slice_index_or ks p d).low) × Marks bs (seen (slice_index_or ks p d).high)
 
 -- the name under which a diagram goes after its place has moved
 abbrev pub moved_as : List Diagram → Diagram → View → Diagram

@@ -9,4 +9,4 @@ pub mod Asking
 pub mod Frames
 pub mod Stacks
 pub mod Solving
-pub mod NodeTrees
+pub mod NodeLaws

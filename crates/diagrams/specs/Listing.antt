@@ -1,5 +1,5 @@
 -- The groups of a diagram below a limit.
-use Rattle.std.specs.Prelude.{◌≡◌, ℕ, ◌*◌, ◌/◌, ◌%◌, ◌^◌, cond, ltb, List, [], ◌∷◌, ◌++◌, length, take, drop, Some, None, filter, Option, nat_lt}
+use Rattle.std.specs.Prelude.{◌≡◌, ℕ, ◌*◌, ◌/◌, ◌%◌, ◌^◌, cond, List, [], ◌∷◌, ◌++◌, length, take, drop, Some, None, filter, Option, nat_lt}
 
 -- the first of a list that is below n, or none; of a falling list it is the largest
 abbrev pub first_below : ℕ → List ℕ → Option ℕ
@@ -12,7 +12,7 @@ group_bytes g = (g / 2 ^ 56 % 256) ∷ (g / 2 ^ 48 % 256) ∷ (g / 2 ^ 40 % 256)
 
 -- the groups below n, of a list of groups
 abbrev pub below : ℕ → List ℕ → List ℕ
-below n gs = filter (λ g. ltb g n) gs
+below n gs = filter (λ g. nat_lt g n) gs
 
 -- the first of them, as many as there is room for
 abbrev pub page : ℕ → ℕ → List ℕ → List ℕ

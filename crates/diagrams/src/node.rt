@@ -4,7 +4,7 @@ ghost use Rattle.std.specs.Prelude.{◌≡◌};
 ghost use Rattle.std.proofs.Common.{ap, rules};
 ghost use Rattle.memos.specs.Diagrams.{seen};
 ghost use Rattle.diagrams.specs.NodeKeys.{node_mark, same_node, word};
-ghost use Rattle.diagrams.specs.NodeTrees.{same_sound};
+ghost use Rattle.diagrams.specs.NodeLaws.{same_sound};
 
 use interning::hashing::{finish, mix};
 use interning::key::Key;

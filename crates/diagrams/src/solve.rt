@@ -98,7 +98,7 @@ fn take<M: Memo>(
     requires due { Due (trees nodes.old) (told (M.Memo.keeps memo.old) (trees nodes.old) (M.Memo.notes memo.old)) (length (pending stack.old)) newest answer }
     ensures notes { AllRight (trees nodes.new) (M.Memo.notes memo.new) }
     ensures grows { Grows (trees nodes.old) (trees nodes.new) (ask_at (trees nodes.old) newest.question) }
-    ensures counts { OnOk result (((n : ℕ) → CountsOn (M.Memo.keeps memo.old) (M.Memo.keeps memo.new) (trees nodes.old) (M.Memo.notes memo.old) (trees nodes.new) (M.Memo.notes memo.new) (ask_at (trees nodes.old) newest.question) (pending stack.old) (newest ∷ pending stack.old) (pending stack.new) n n)) }
+    ensures counts { OnOk result ((n : ℕ) → CountsOn (M.Memo.keeps memo.old) (M.Memo.keeps memo.new) (trees nodes.old) (M.Memo.notes memo.old) (trees nodes.new) (M.Memo.notes memo.new) (ask_at (trees nodes.old) newest.question) (pending stack.old) (newest ∷ pending stack.old) (pending stack.new) n n) }
     ensures already { M.Memo.keeps memo.new → M.Memo.keeps memo.old }
     ensures closed { M.Memo.keeps memo.new → Closed (trees nodes.new) (M.Memo.notes memo.new) }
     ensures takes { Takes (places nodes.old) (trees nodes.old) (told (M.Memo.keeps memo.old) (trees nodes.old) (M.Memo.notes memo.old)) (trees nodes.new) (told (M.Memo.keeps memo.new) (trees nodes.new) (M.Memo.notes memo.new)) (ask_at (trees nodes.old) newest.question) (pending stack.old) (pending stack.new) (load (newest ∷ pending stack.old) (Answering answer)) result }

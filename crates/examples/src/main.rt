@@ -1,5 +1,5 @@
 //! Worked rules and damaged ones, each with what the reading says of it: let in, or denied and why.
-//! `rt check examples` builds target/bin/examples, which takes no input, and holds what it prints to the file `stdout`.
+//! `rt run` proves and runs this; it takes no input, and `rt ci` holds what it prints to the file `stdout`.
 #![tactic(auto)]
 
 mod outcomes;

@@ -23,12 +23,12 @@ in_use Second fs ss = ss
 
 -- the half in use has no place left
 abbrev pub Crowded : Current → ℕ → ℕ → List Note → List Note → Type 0
-Crowded First room-f room-s fs ss = length fs ≡ room-f
-Crowded Second room-f room-s fs ss = length ss ≡ room-s
+Crowded First room_f room_s fs ss = length fs ≡ room_f
+Crowded Second room_f room_s fs ss = length ss ≡ room_s
 
 -- The second half follows the first one if it has places; else the first half is begun again.
 abbrev pub Follows : Current → ℕ → Current → Type 0
-Follows First room-s First = room-s ≡ 0
-Follows First room-s Second = 0 < room-s
-Follows Second room-s First = Unit {0}
-Follows Second room-s Second = ⊥
+Follows First room_s First = room_s ≡ 0
+Follows First room_s Second = 0 < room_s
+Follows Second room_s First = Unit {0}
+Follows Second room_s Second = ⊥

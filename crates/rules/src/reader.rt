@@ -7,7 +7,7 @@ ghost use Rattle.rules.specs.Levels.{Level, levels, crowded};
 ghost use Rattle.rules.specs.Memory.{view};
 ghost use Rattle.rules.specs.declared.reader.Wants.TheVariants.{Item, Figure as WantsFigure, Bracket as WantsBracket};
 ghost use Rattle.rules.specs.declared.tokens.Kind.TheVariants.{Number};
-ghost use Rattle.rules.specs.Reading.{State, Frame, wants_item, wants_figure, wants_bracket, in_range, fits as fit, figured as with-figure, at_item, at_figure, at_bracket, step, close as closes, joined};
+ghost use Rattle.rules.specs.Reading.{State, Frame, wants_item, wants_figure, wants_bracket, in_range, fits as fit, figured as with_figure, at_item, at_figure, at_bracket, step, close as closes, joined};
 ghost use Rattle.rules.specs.Spelling.{Figure};
 
 use crate::faults::RuleFault;
@@ -65,7 +65,7 @@ fn after_word(word: Word) -> Wants
 
 // The head of a word with its figure.
 fn figured(word: Word, figure: u8) -> Head
-    ensures { result ≡ with-figure word figure }
+    ensures { result ≡ with_figure word figure }
 {
     match word {
         Word::All => Head::All,

@@ -3,7 +3,7 @@ use Rattle.interning.specs.Decode.{decode}
 use Rattle.interning.proofs.Decode.{decode_none}
 use Rattle.diagrams.specs.NodeKeys.{node_tree}
 use Rattle.diagrams.proofs.Built.{good_none}
-use Rattle.diagrams.specs.NodeTrees.{rooted_none}
+use Rattle.diagrams.proofs.NodeTrees.{rooted_none}
 use Rattle.diagrams.proofs.nodes.NodeMemory.clear.Goals as goal
 
 pub invariant_of-self : goal.invariant_of-self

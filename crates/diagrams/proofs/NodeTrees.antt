@@ -1,11 +1,11 @@
 -- Nodes can be told by the trees that they stand for: a part is none, always or the tree of one place alone.
-use Rattle.std.specs.Prelude.{◌≡◌, ℕ, zero, suc, ◌≤◌, true, false, ◌||◌, List, [], ◌++◌, length, ◌==◌, ◌≢◌, slice_index_or, refl}
+use Rattle.std.specs.Prelude.{◌≡◌, ℕ, zero, suc, ◌≤◌, false, ◌||◌, List, [], ◌++◌, length, ◌≢◌, slice_index_or, refl}
 use Rattle.std.proofs.Common.{sym, ap, subst, ◌∙◌, ⊎_elim, not-suc-le-zero, arith}
 use mathlib.Core.HLevel.{×_prop}
 use Rattle.std.proofs.Math.Logic.{∥∥₁_elim}
 use Rattle.std.proofs.Math.Bridge.{le_prop}
 use Rattle.std.proofs.lemmas.List.{get_or_append_left}
-use Rattle.std.proofs.lemmas.Bool.{and_parts, eqb-true, false≢true}
+use Rattle.std.proofs.lemmas.Bool.{false≢true}
 use Rattle.interning.specs.Decode.{Readable, Rooted}
 use Rattle.interning.specs.Interned.{Appended, Placed}
 use Rattle.interning.specs.Places.{Apart, Each}
@@ -17,18 +17,7 @@ use Rattle.memos.specs.declared.diagram.View.TheVariants.{None, Always, Node as 
 use Rattle.memos.specs.Diagrams.{named, seen}
 use Rattle.families.specs.Trees.{Tree, none, always, node, is_none, is_always}
 use Rattle.diagrams.specs.declared.node.Node.{Node}
-use Rattle.diagrams.specs.NodeKeys.{Below, NamesBelow, same_node, tree_of, tree_at, node_tree}
-
--- only a node and itself are the same
-pub same_sound : (x y : Node) → same_node x y ≡ true → x ≡ y
-same_sound x y e =
-    let m = and_parts (x.member == y.member) _ e in
-    let p = and_parts (x.low.code == y.low.code) _ m.1 in
-    λ i. record {
-      member = eqb-true x.member y.member m.0 i;
-      low = record { code = eqb-true x.low.code y.low.code p.0 i };
-      high = record { code = eqb-true x.high.code y.high.code p.1 i };
-    }
+use Rattle.diagrams.specs.NodeKeys.{Below, NamesBelow, tree_of, tree_at, node_tree}
 
 -- no two names read alike
 named_told : (m n : ℕ) → named m ≡ named n → m ≡ n

@@ -2,7 +2,7 @@
 use Rattle.std.proofs.Common.{◌≡◌, ℕ, suc, ◌+◌, ◌*◌, ◌/◌, ◌^◌, ◌<◌, ◌≤◌, Bool, true, false, ◌&&◌, ltb, leb, List, [], ◌∷◌, ◌++◌, length, take, replicate, is_some, Some, None, Ok, Err, Option, sym, refl, ap, ◌∙◌, subst, arith}
 use native.Mathlib.Nat.{mul-div_cancel_left}
 use lib.ListN.{length-replicate}
-use Rattle.std.specs.List.{AllByRecursion as All}
+use Rattle.std.specs.List.{AllByRecursion}
 use Rattle.std.proofs.lemmas.List.{take_all, take_at}
 use Rattle.std.proofs.lemmas.Bool.{lt-ltb, le-leb, and_from, both_ways, false≢true}
 use Rattle.families.specs.Trees as tree
@@ -38,7 +38,7 @@ page_whole f k room l =
     ∙ take_all room (tree.groups f) l
 
 -- two pages with as many groups, at the front of equal bytes, are one
-fronts_once : (ns ms xs ys : List ℕ) → All Word ns → All Word ms → length ns ≡ length ms → page_bytes ns ++ xs ≡ page_bytes ms ++ ys → ns ≡ ms
+fronts_once : (ns ms xs ys : List ℕ) → AllByRecursion Word ns → AllByRecursion Word ms → length ns ≡ length ms → page_bytes ns ++ xs ≡ page_bytes ms ++ ys → ns ≡ ms
 fronts_once ns ms xs ys a b l e =
     pages_once ns ms a b (sym (take_at (page_bytes ns) xs (8 * length ns) (length_page ns)) ∙ ap (take (8 * length ns)) e ∙ take_at (page_bytes ms) ys (8 * length ns) (length_page ms ∙ ap (λ n. 8 * n) (sym l)))
 
@@ -112,8 +112,8 @@ module _ (z : Sizes) (ss tt' : Shelves) (alike : AnswerAlike z ss tt') (i : ℕ)
           let r = once (let_in_event ss i buffer) (let_in_event tt' i buffer) refl refl (groups_told z ss i buffer l p buffer_long) (groups_told z tt' i buffer l q buffer_long) in
           let e = whole_listed ss k (omega arith) in
           let f = whole_listed tt' m (omega arith) in
-          let a = subst (All Word) (sym e) (groups_words (tree_on ss i) k) in
-          let b = subst (All Word) (sym f) (groups_words (tree_on tt' i) m) in
+          let a = subst (AllByRecursion Word) (sym e) (groups_words (tree_on ss i) k) in
+          let b = subst (AllByRecursion Word) (sym f) (groups_words (tree_on tt' i) m) in
           groups_once (tree_on ss i) (tree_on tt' i) k m (sym e ∙ fronts_once (listed ss i (2 ^ 48) (length buffer)) (listed tt' i (2 ^ 48) (length buffer)) _ _ a b (told_same _ _ r.0) r.1 ∙ f)
 
   pub alike_passing : SamePassing (on_shelf ss i) (on_shelf tt' i)

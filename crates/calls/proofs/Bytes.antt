@@ -1,7 +1,7 @@
 -- Eight bytes give back the number that they were made from, so bytes give back the numbers of a page.
 use Rattle.std.proofs.Common.{◌≡◌, ℕ, ◌+◌, ◌*◌, ◌/◌, ◌%◌, ◌^◌, ◌<◌, List, [], ◌∷◌, length, sym, refl, ap, ◌∙◌, ap₂, arith}
 use native.Mathlib.Nat.{div-add-mod, div-div-eq-div-mul}
-use Rattle.std.specs.List.{AllByRecursion as All}
+use Rattle.std.specs.List.{AllByRecursion}
 use Rattle.diagrams.specs.Listing.{page_bytes}
 use Rattle.calls.specs.Sheets.{number_in, numbers_in}
 
@@ -22,11 +22,11 @@ number_again n l = collected n (n / 256) (n / 2 ^ 16) (n / 2 ^ 24) (n / 2 ^ 32) 
     (sym (div-add-mod n 256)) (digit_step n 256) (digit_step n (2 ^ 16)) (digit_step n (2 ^ 24)) (digit_step n (2 ^ 32)) (digit_step n (2 ^ 40))
     (digit_step n (2 ^ 48) ∙ ap (λ q. 256 * q + n / 2 ^ 48 % 256) (sym (first_digit n l)))
 
-pub numbers_again : (ns : List ℕ) → All (λ n. n < 2 ^ 64) ns → numbers_in (page_bytes ns) ≡ ns
+pub numbers_again : (ns : List ℕ) → AllByRecursion (λ n. n < 2 ^ 64) ns → numbers_in (page_bytes ns) ≡ ns
 numbers_again [] a = refl
 numbers_again (n ∷ ns) a = ap₂ (λ x xs. x ∷ xs) (number_again n a.0) (numbers_again ns a.1)
 
-pub pages_once : (ns ms : List ℕ) → All (λ n. n < 2 ^ 64) ns → All (λ n. n < 2 ^ 64) ms → page_bytes ns ≡ page_bytes ms → ns ≡ ms
+pub pages_once : (ns ms : List ℕ) → AllByRecursion (λ n. n < 2 ^ 64) ns → AllByRecursion (λ n. n < 2 ^ 64) ms → page_bytes ns ≡ page_bytes ms → ns ≡ ms
 pages_once ns ms a b e = sym (numbers_again ns a) ∙ ap numbers_in e ∙ numbers_again ms b
 
 pub length_page : (ns : List ℕ) → length (page_bytes ns) ≡ 8 * length ns

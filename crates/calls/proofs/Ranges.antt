@@ -1,6 +1,6 @@
 -- A rule in order expands to a term whose members are all from 1 to n.
 use Rattle.std.proofs.Common.{◌≡◌, ℕ, zero, suc, ◌-◌, ◌*◌, ◌/◌, ◌≤◌, true, cond, eqb, leb, List, [], ◌∷◌, map, length, take, drop, ap, ◌∙◌, zero-mul, arith}
-use Rattle.std.specs.List.{AllByRecursion as All}
+use Rattle.std.specs.List.{AllByRecursion}
 use Rattle.std.proofs.ByRecursion.{All-take, All-drop}
 use Rattle.std.proofs.lemmas.Bool.{and_parts, cond_both, eqb-false, leb-true}
 use Rattle.rules.specs.declared.words.Head.{Head}
@@ -20,17 +20,17 @@ module _ (n : ℕ) where
   Ranges (both s t) = Ranges s × Ranges t
   Ranges (either s t) = Ranges s × Ranges t
 
-  all_of_ranges : (es : List Term) → 1 ≤ length es → All Ranges es → Ranges (all_of es)
+  all_of_ranges : (es : List Term) → 1 ≤ length es → AllByRecursion Ranges es → Ranges (all_of es)
   all_of_ranges [] l a = absurd (omega arith)
   all_of_ranges (e ∷ []) l a = a.0
   all_of_ranges (e ∷ f ∷ es) l a = (a.0, all_of_ranges (f ∷ es) (omega arith) a.1)
 
-  any_of_ranges : (es : List Term) → 1 ≤ length es → All Ranges es → Ranges (any_of es)
+  any_of_ranges : (es : List Term) → 1 ≤ length es → AllByRecursion Ranges es → Ranges (any_of es)
   any_of_ranges [] l a = absurd (omega arith)
   any_of_ranges (e ∷ []) l a = a.0
   any_of_ranges (e ∷ f ∷ es) l a = (a.0, any_of_ranges (f ∷ es) (omega arith) a.1)
 
-  least_of_ranges : (k : ℕ) (es : List Term) → 1 ≤ k → k ≤ length es → All Ranges es → Ranges (least_of k es)
+  least_of_ranges : (k : ℕ) (es : List Term) → 1 ≤ k → k ≤ length es → AllByRecursion Ranges es → Ranges (least_of k es)
   least_of_ranges k [] l m a = absurd (omega arith)
   least_of_ranges k (e ∷ es) l m a =
       cond_both (eqb k (suc (length es))) (all_of (e ∷ es)) (cond (eqb k 1) (any_of (e ∷ es)) (either (both e (least_of (k - 1) es)) (least_of k es))) Ranges
@@ -40,27 +40,27 @@ module _ (n : ℕ) where
       (λ q. ((a.0, least_of_ranges (k - 1) es (omega (arith, eqb-false k 1 q)) (omega arith) a.1), least_of_ranges k es l (omega (arith, eqb-false k (suc (length es)) p)) a.1)))
 
   -- rows of w items each, and w is not 0
-  rows_range : (f : List Term → Term) → ((es : List Term) → 1 ≤ length es → All Ranges es → Ranges (f es)) → (r w : ℕ) (es : List Term) → 1 ≤ w → length es ≡ r * w → All Ranges es → All Ranges (map f (cut r w es))
+  rows_range : (f : List Term → Term) → ((es : List Term) → 1 ≤ length es → AllByRecursion Ranges es → Ranges (f es)) → (r w : ℕ) (es : List Term) → 1 ≤ w → length es ≡ r * w → AllByRecursion Ranges es → AllByRecursion Ranges (map f (cut r w es))
   rows_range f h zero w es l p a = tt
   rows_range f h (suc r) w es l p a =
       let q = take_row r w es p in
       (h (take w es) (omega arith) (All-take Ranges w es a), rows_range f h r w (drop w es) l (drop_rows r w es p) (All-drop Ranges w es a))
 
-  grid_ranges : (r w : ℕ) (es : List Term) → 1 ≤ w → 1 ≤ length es → length es ≡ r * w → All Ranges es → Ranges (both (any_of (map all_of (cut r w es))) (all_of (map any_of (cut r w es))))
+  grid_ranges : (r w : ℕ) (es : List Term) → 1 ≤ w → 1 ≤ length es → length es ≡ r * w → AllByRecursion Ranges es → Ranges (both (any_of (map all_of (cut r w es))) (all_of (map any_of (cut r w es))))
   grid_ranges zero w es l m p a = let z = zero-mul w in absurd (omega arith)
   grid_ranges (suc r) w es l m p a = (
     any_of_ranges (map all_of (cut (suc r) w es)) (omega arith) (rows_range all_of all_of_ranges (suc r) w es l p a),
     all_of_ranges (map any_of (cut (suc r) w es)) (omega arith) (rows_range any_of any_of_ranges (suc r) w es l p a),
   )
 
-  expand_list_ranges : (h : Head) (es : List Term) → Figure h → 1 ≤ length es → fits h (length es) ≡ true → All Ranges es → Ranges (expand_list h es)
+  expand_list_ranges : (h : Head) (es : List Term) → Figure h → 1 ≤ length es → fits h (length es) ≡ true → AllByRecursion Ranges es → Ranges (expand_list h es)
   expand_list_ranges head.All es f l t a = all_of_ranges es l a
   expand_list_ranges head.Any es f l t a = any_of_ranges es l a
   expand_list_ranges (head.Least k) es f l t a = least_of_ranges k es (figure_least 64 k f) (leb-true k (length es) t) a
   expand_list_ranges (head.Grid w) es f l t a = grid_ranges (length es / w) w es (figure_least 64 w f) l (rows_even (length es) w t) a
 
   mutual
-    expanded_range : (d : ℕ) (is : rule.Items) → AllInOrder n d is → All Ranges (expanded is)
+    expanded_range : (d : ℕ) (is : rule.Items) → AllInOrder n d is → AllByRecursion Ranges (expanded is)
     expanded_range d rule.none o = tt
     expanded_range d (rule.item r is) o = (expand_ranges d r o.0, expanded_range d is o.1)
 

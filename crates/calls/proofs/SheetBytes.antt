@@ -1,6 +1,6 @@
 -- The bytes of a sheet: they give back its numbers, and so the family.
 use Rattle.std.proofs.Common.{◌≡◌, ℕ, ◌^◌, ◌<◌, Bool, true, false, cond, List, ◌++◌, length, take, sym, refl, ap, ◌∙◌, arith, length-append}
-use Rattle.std.specs.List.{AllByRecursion as All}
+use Rattle.std.specs.List.{AllByRecursion}
 use Rattle.std.proofs.ByRecursion.{All-append}
 use Rattle.std.proofs.lemmas.List.{take_at}
 use Rattle.families.specs.Trees.{Tree, groups, is_none}
@@ -16,7 +16,7 @@ use Rattle.calls.proofs.Bytes.{numbers_again, length_page}
 abbrev pub Word : ℕ → Type 0
 Word n = n < 2 ^ 64
 
-pub groups_words : (f : Tree) → Good 1 f → All Word (groups f)
+pub groups_words : (f : Tree) → Good 1 f → AllByRecursion Word (groups f)
 groups_words f k = each_all Word (groups f) (λ n e. let g = lists_group 1 f n k e in omega arith)
 
 verdict_word : (a b : Bool) → Word (cond a (cond b 1 2) 3)
@@ -25,7 +25,7 @@ verdict_word true false = omega arith
 verdict_word false b = omega arith
 
 module _ (f : Tree) (k : Good 1 f) where
-  sheet_words : All Word (sheet_numbers (verdict_number f) (groups f) (groups (turned f)))
+  sheet_words : AllByRecursion Word (sheet_numbers (verdict_number f) (groups f) (groups (turned f)))
   sheet_words =
       let p = groups_few f k in
       let q = groups_few (turned f) (good_turn f k) in

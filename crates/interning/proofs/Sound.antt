@@ -1,13 +1,15 @@
--- What a sound interner says of its keys. Assumes nothing.
+-- What an interner says of its keys. Assumes nothing.
 use Rattle.std.proofs.Common.{◌≡◌, ℕ, ◌<◌, ◌≤◌, List, length, get_or, sym, ◌∙◌, arith}
+use Rattle.std.specs.declared.cmp.PartialEq.{Ghosts as Equality}
 use mathlib.Core.Logic.{∥∥₁_elim}
 use native.Mathlib.Bridge.{le_prop}
 use native.Mathlib.Nat.{ℕ_set}
 use Rattle.interning.specs.declared.slot.Slot.{Slot}
 use Rattle.interning.specs.declared.interner.Interner.{Interner}
+use Rattle.interning.specs.declared.key.Key.{Ghosts as Hashing}
 use Rattle.interning.specs.Chain.{Linked, keys, room}
 use Rattle.interning.specs.Places.{Apart}
-use Rattle.interning.specs.Model.{held, capacity, Sound}
+use Rattle.interning.specs.Model.{held, capacity}
 use Rattle.interning.proofs.Slots.{length_keys, key_at, blank}
 
 -- a fact that has one proof at most comes out of its truncation
@@ -24,20 +26,20 @@ linked_out t = record {
   };
 }
 
--- slots that fit and are in chains make a sound interner
-pub sound_from : {K : Type 0} {mark : K → ℕ} {xs : List (Slot K)} {used : ℕ} → used ≤ room (length xs) → Linked mark xs used → (used ≡ length (keys xs used)) × (used ≤ room (length xs)) × ∥ Linked mark xs used ∥₁
-sound_from {K} {mark} {xs} {used} fits linked = (omega (arith, length_keys xs used), fits, ∣ linked ∣₁)
+module _ {K : Type 0} {hashing : Hashing K} {equality : Equality K} (i : Interner K hashing equality) where
+  -- it counts its keys
+  pub held_used : length (held i) ≡ i.used
+  held_used = omega (arith, length_keys i.slots.now i.used, i.within)
 
-module _ {K : Type 0} {mark : K → ℕ} (i : Interner K) (sound : Sound mark i) where
   -- no more keys are held than there are places
   pub held_fits : length (held i) ≤ capacity i
-  held_fits = omega (arith, sound.0, sound.1)
+  held_fits = omega (arith, held_used, i.within)
 
   -- the keys are pairwise different
   pub held_apart : Apart (held i)
   held_apart p q d l m e =
-      let linked = linked_out sound.2 in
-      let h : q < i.used = omega (arith, sound.0) in
+      let linked = linked_out i.linked in
+      let h : q < i.used = omega (arith, held_used) in
       let at : (j : ℕ) → j < i.used → get_or (held i) j d ≡ (get_or i.slots.now j (blank d)).key =
-      λ j n. key_at i.slots.now i.used j d (blank d) n (omega (arith, sound.1)) in
+      λ j n. key_at i.slots.now i.used j d (blank d) n (omega (arith, i.within)) in
       (linked.chains (blank d)).apart p q l h (sym (at p (omega arith)) ∙ e ∙ at q h)

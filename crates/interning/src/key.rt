@@ -1,29 +1,18 @@
 //! What an interner asks of its keys.
-//! Two ghost members say what a key's hash and the comparison of two keys are; the laws tie them to
-//! each other and to equality, and the lookup of a key rests on these laws alone.
-ghost use Rattle.std.specs.Prelude.{◌≡◌, ℕ, Bool, true};
+//! Equality is the type's own `==`; the laws tie it to the keys themselves and to their hashes, and the lookup of a key rests on these laws alone.
+ghost use Rattle.std.specs.Prelude.{◌≡◌, ℕ, true};
 
-pub trait Key: Copy {
+pub trait Key: Copy + Eq {
     // The hash of a key.
     ghost mark: { Self → ℕ };
-
-    // Whether two keys are equal.
-    ghost equal: { Self → Self → Bool };
 
     // The hash of the key.
     fn hash(&self) -> u32
         ensures { result ≡ mark self.now };
 
-    // Whether `other` is the same key.
-    fn same(&self, other: &Self) -> bool
-        ensures { result ≡ equal self.now other.now };
-
     // Equal keys are the same key.
-    ghost sound: { (x y : Self) → equal x y ≡ true → x ≡ y };
-
-    // The same key is equal to itself.
-    ghost whole: { (x y : Self) → x ≡ y → equal x y ≡ true };
+    ghost sound: { (x y : Self) → Self.eq x y ≡ true → x ≡ y };
 
     // Equal keys have equal hashes.
-    ghost marked: { (x y : Self) → equal x y ≡ true → mark x ≡ mark y };
+    ghost marked: { (x y : Self) → Self.eq x y ≡ true → mark x ≡ mark y };
 }

@@ -6,26 +6,18 @@ use crate::interner::Interner;
 use crate::key::Key;
 use crate::slot::Slot;
 
-#[derive(Clone, Copy)]
+#[derive(Clone, Copy, PartialEq, Eq)]
 struct Word(u32);
 
 impl Key for Word {
     ghost mark = { λ w. 7 };
 
-    ghost equal = { λ v w. (v.0 == w.0) };
-
     ghost sound = { Prim.search rules };
-
-    ghost whole = { Prim.search rules };
 
     ghost marked = { Prim.search rules };
 
     fn hash(&self) -> u32 {
         7
-    }
-
-    fn same(&self, other: &Word) -> bool {
-        self.0 == other.0
     }
 }
 

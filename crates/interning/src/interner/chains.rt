@@ -4,17 +4,27 @@
 ghost use Rattle.std.specs.Prelude.{◌≡◌, ◌<◌, length};
 ghost use Rattle.interning.specs.Chain.{Linked, Seeks};
 ghost use Rattle.interning.specs.Interned.{Placed};
-ghost use Rattle.interning.specs.Model.{held, capacity, Sound};
+ghost use Rattle.interning.specs.Model.{held, capacity};
 ghost use Rattle.interning.specs.Places.{Absent, Sought};
 
 use super::Interner;
 use crate::key::Key;
-use crate::slot::Link;
+use crate::slot::{Link, Slot};
+
+// Takes every place out of the chains.
+pub(super) fn unlink<K: Key>(slots: &mut [Slot<K>])
+    ensures linked { ∥ Linked K.mark slots.new 0 ∥₁ }
+    ensures slots { length slots.new ≡ length slots.old }
+{
+    for slot in slots.iter_mut() {
+        slot.head = Link::none();
+    }
+}
 
 impl<'a, K: Key> Interner<'a, K> {
     // The newest place of a key's bucket.
     pub(super) fn newest(&self, key: K) -> Link
-        ensures { Sound K.Key.mark self.now → Seeks K.Key.mark K.Key.equal self.now.slots.now self.now.used key result.past }
+        ensures { Seeks K.mark K.eq self.now.slots.now self.now.used key result.past }
     {
         let slots = &*self.slots;
         if slots.len() == 0 {
@@ -25,13 +35,13 @@ impl<'a, K: Key> Interner<'a, K> {
 
     // The place of a key that is looked for from `cursor` on, through older and older places of the bucket.
     pub(super) fn walk(&self, mut cursor: Link, key: K) -> Option<u32>
-        ensures { Sound K.Key.mark self.now → Seeks K.Key.mark K.Key.equal self.now.slots.now self.now.used key cursor.past → Sought (held self.now) key result }
+        ensures { Seeks K.mark K.eq self.now.slots.now self.now.used key cursor.past → Sought (held self.now) key result }
     {
         let slots = &*self.slots;
         for _ in 0..self.used {
             let place = cursor.place()?;
             let slot = slots.get(place as usize)?;
-            if slot.key.same(&key) {
+            if slot.key == key {
                 return Some(place);
             }
             cursor = slot.next;
@@ -41,9 +51,9 @@ impl<'a, K: Key> Interner<'a, K> {
 
     // Puts an absent key at the next place, and that place at the head of the key's chain.
     pub(super) fn append(&mut self, key: K) -> u32
-        requires { self.old.used < capacity self.old }
-        ensures sound { Sound K.Key.mark self.old → Absent (held self.old) key → Sound K.Key.mark self.new }
-        ensures placed { Sound K.Key.mark self.old → Absent (held self.old) key → Placed (capacity self.old) (held self.old) key result (held self.new) }
+        requires free { self.old.used < capacity self.old }
+        requires absent { Absent (held self.old) key }
+        ensures placed { Placed (capacity self.old) (held self.old) key result (held self.new) }
         ensures capacity { capacity self.new ≡ capacity self.old }
         ensures named { self.new.slots.ghost_name ≡ self.old.slots.ghost_name }
     {
@@ -60,17 +70,5 @@ impl<'a, K: Key> Interner<'a, K> {
         slots[place as usize] = fresh;
         self.used = place + 1;
         place
-    }
-
-    // Takes every place out of the chains.
-    pub(super) fn unlink(&mut self)
-        ensures linked { ∥ Linked K.Key.mark self.new.slots.now 0 ∥₁ }
-        ensures used { self.new.used ≡ self.old.used }
-        ensures slots { length self.new.slots.now ≡ length self.old.slots.now }
-        ensures named { self.new.slots.ghost_name ≡ self.old.slots.ghost_name }
-    {
-        for slot in self.slots.iter_mut() {
-            slot.head = Link::none();
-        }
     }
 }

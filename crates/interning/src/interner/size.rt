@@ -1,6 +1,6 @@
 //! How full an interner is.
 ghost use Rattle.std.specs.Prelude.{◌≡◌, length};
-ghost use Rattle.interning.specs.Model.{held, capacity, Sound};
+ghost use Rattle.interning.specs.Model.{held, capacity};
 
 use super::Interner;
 use crate::key::Key;
@@ -9,7 +9,7 @@ impl<'a, K: Key> Interner<'a, K> {
     // How many keys are held.
     pub fn len(&self) -> u32
         ensures used { result ≡ self.now.used }
-        ensures held { Sound K.Key.mark self.now → result ≡ length (held self.now) }
+        ensures held { result ≡ length (held self.now) }
     {
         self.used
     }

@@ -2,7 +2,7 @@ use Rattle.std.proofs.Common.{◌+◌, ◌%◌, ◌<◌, ◌≤◌, length, sym,
 use Rattle.interning.specs.Chain.{room}
 use Rattle.interning.specs.Model.{held, capacity}
 use Rattle.interning.proofs.Interned.{placed_new}
-use Rattle.interning.proofs.Sound.{linked_out, sound_from}
+use Rattle.interning.proofs.Sound.{linked_out, held_used}
 use Rattle.interning.proofs.Writes.{written}
 use Rattle.interning.proofs.interner.Interner.append.Goals as goal
 
@@ -38,10 +38,25 @@ returns g c =
     let i = c.args.self.now in
     let w = written xs u free k b l to.result to.ensures f.result s.result f.is s.is in
     record {
-      sound = λ sound absent.
-          sound_from (subst (λ m. u + 1 ≤ room m) (sym w.0) (omega arith))
-          (w.2 g.K.Key.mark (ap (λ h. h % n) (sym c.hash.ensures)) (linked_out sound.2) absent);
-      placed = λ sound absent. placed_new (capacity i) (held i) k u _ w.1 sound.0 c.requires absent;
+      placed = placed_new (capacity i) (held i) k u _ w.1 (sym (held_used i)) c.requires.free c.requires.absent;
       capacity = ap room w.0;
       named = refl;
+    }
+
+pub invariant_of-self : goal.invariant_of-self
+invariant_of-self g c =
+    let i = c.args.self.now in
+    let xs = i.slots.now in
+    let n = length xs in
+    let u = i.used in
+    let k = c.args.key in
+    let free : u < n = omega arith in
+    let l : c.hash.result % n < n = mod-lt c.hash.result (omega arith) in
+    let f = c.index-slots-bucket in
+    let s = c.index-slots-place in
+    let to = c.to-first in
+    let w = written xs u free k (c.hash.result % n) l to.result to.ensures f.result s.result f.is s.is in
+    record {
+      within = subst (λ m. u + 1 ≤ room m) (sym w.0) (omega arith);
+      linked = ∣ w.2 g.K.Key.mark (ap (λ h. h % n) (sym c.hash.ensures)) (linked_out i.linked) c.requires.absent ∣₁;
     }

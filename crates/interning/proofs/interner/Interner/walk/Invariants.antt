@@ -1,10 +1,8 @@
 use Rattle.std.proofs.Common.{◌+◌, ◌≤◌}
 use Rattle.interning.specs.Chain.{Seeks}
-use Rattle.interning.specs.Model.{Sound}
 use Rattle.interning.proofs.interner.Interner.walk.Given as goal
 
 abbrev pub invariant-loop : goal.invariant-loop
 invariant-loop g l =
-    Sound g.K.Key.mark l.self
-    → Seeks g.K.Key.mark g.K.Key.equal l.slots l.self.used l.key l.initial.cursor.past
-    → (l.cursor.past + l.counter ≤ l.self.used) × Seeks g.K.Key.mark g.K.Key.equal l.slots l.self.used l.key l.cursor.past
+    Seeks g.K.Key.mark g.K.PartialEq.eq l.slots l.self.used l.key l.initial.cursor.past
+    → (l.cursor.past + l.counter ≤ l.self.used) × Seeks g.K.Key.mark g.K.PartialEq.eq l.slots l.self.used l.key l.cursor.past

@@ -1,5 +1,0 @@
-use Rattle.interning.proofs.Writes.{Emptied}
-use Rattle.interning.proofs.interner.Interner.unlink.Given as goal
-
-abbrev pub invariant-loop-slot : goal.invariant-loop-slot
-invariant-loop-slot g l = Emptied l.slot-items l.slot-index

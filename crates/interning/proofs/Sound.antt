@@ -7,7 +7,7 @@ use native.Mathlib.Nat.{ℕ_set}
 use Rattle.interning.specs.declared.slot.Slot.{Slot}
 use Rattle.interning.specs.declared.interner.Interner.{Interner}
 use Rattle.interning.specs.declared.key.Key.{Ghosts as Hashing}
-use Rattle.interning.specs.Chain.{Linked, keys, room}
+use Rattle.interning.specs.Chain.{Linked}
 use Rattle.interning.specs.Places.{Apart}
 use Rattle.interning.specs.Model.{held, capacity}
 use Rattle.interning.proofs.Slots.{length_keys, key_at, blank}

@@ -1,7 +1,7 @@
 -- What the two writes to a list of slots leave: the chains emptied, and a key more. Assumes nothing.
 use Rattle.std.proofs.Common.{◌≡◌, ℕ, ◌+◌, ◌%◌, ◌<◌, ◌≤◌, ◌≢◌, List, [], ◌∷◌, ◌++◌, map, length, get_or, take, set, sym, refl, ap, ◌∙◌, subst, ⊎_elim, arith, below_more}
 use Rattle.std.proofs.lemmas.Bool.{cases_eq}
-use Rattle.std.proofs.lemmas.List.{length-set, get_or-set_same, get_or-set_other, set-get_or, map-set, map_push, take-map, take_more_set, get_or-map, get_or_read}
+use Rattle.std.proofs.lemmas.List.{length-set, get_or-set_same, get_or-set_other, set-get_or, map-set, map_push, take-map, take_more_set, get_or-map, get_or_default}
 use Rattle.interning.specs.declared.slot.Slot.{Slot}
 use Rattle.interning.specs.declared.slot.Link.{Link}
 use Rattle.interning.specs.Chain.{Linked, keys}
@@ -23,55 +23,54 @@ pub linked_none : {K : Type 0} (mark : K → ℕ) (xs : List (Slot K)) → Empti
 linked_none mark xs empty = record { chains = λ d. chained_none mark (length xs) _ _ _ (λ b l. empty b l d) }
 
 -- a write that keeps a field keeps it everywhere
-set_field : {K A : Type 0} (field : Slot K → A) (xs : List (Slot K)) (i : ℕ) (r s : Slot K) → i < length xs → s ≡ get_or xs i s → field r ≡ field s → (p : ℕ) (d : Slot K) → field (get_or (set xs i r) p d) ≡ field (get_or xs p d)
-set_field field xs i r s l is e p d =
+set_field : {K A : Type 0} (field : Slot K → A) (xs : List (Slot K)) (i : ℕ) (r s : Slot K) → i < length xs → field r ≡ field (get_or xs i s) → (p : ℕ) (d : Slot K) → field (get_or (set xs i r) p d) ≡ field (get_or xs p d)
+set_field field xs i r s l e p d =
     ⊎_elim (λ (h : p ≡ i). subst (λ j. field (get_or (set xs i r) j d) ≡ field (get_or xs j d)) (sym h)
-    (ap field (get_or-set_same xs i r d l) ∙ e ∙ ap field (get_or_read xs i s l is d)))
+    (ap field (get_or-set_same xs i r d l) ∙ e ∙ ap field (get_or_default xs i s d l)))
     (λ (h : p ≡ i → ⊥). ap field (get_or-set_other xs i p r d h))
     (cases_eq p i)
 
--- the bucket's slot f with the new head
-abbrev pub headed : {K : Type 0} → Link → Slot K → Slot K
-headed to f = record { key = f.key; head = to; next = f.next }
+-- the slot at b with a new head
+abbrev pub headed : {K : Type 0} → List (Slot K) → ℕ → Link → Slot K → Slot K
+headed xs b to d = record { key = (get_or xs b d).key; head = to; next = (get_or xs b d).next }
 
--- the new place's slot s with the key and the older places of its chain
-abbrev pub filled : {K : Type 0} → K → Slot K → Slot K → Slot K
-filled k f s = record { key = k; head = s.head; next = f.head }
+-- the slot at i with a key and the older places of its chain
+abbrev pub filled : {K : Type 0} → List (Slot K) → ℕ → K → Link → Slot K → Slot K
+filled xs i k older d = record { key = k; head = (get_or xs i d).head; next = older }
 
 -- the slots with both
-abbrev pub grown : {K : Type 0} → List (Slot K) → ℕ → K → ℕ → Link → Slot K → Slot K → List (Slot K)
-grown xs used k b to f s = set (set xs b (headed to f)) used (filled k f s)
+abbrev pub grown : {K : Type 0} → List (Slot K) → ℕ → K → ℕ → Link → Link → Slot K → Slot K → List (Slot K)
+grown xs used k b to older d e = set (set xs b (headed xs b to d)) used (filled (set xs b (headed xs b to d)) used k older e)
 
 module _ {K : Type 0} (xs : List (Slot K)) (used : ℕ) (free : used < length xs)
-    (k : K) (b : ℕ) (in_range : b < length xs) (to : Link) (to_is : to.past ≡ used + 1) (f s : Slot K)
-    (f-is : f ≡ get_or xs b f) (s-is : s ≡ get_or (set xs b (headed to f)) used s) where
-  room' : used < length (set xs b (headed to f))
+    (k : K) (b : ℕ) (in_range : b < length xs) (to older : Link) (to_is : to.past ≡ used + 1) (f s : Slot K) (older_is : older ≡ (get_or xs b f).head) where
+  room' : used < length (set xs b (headed xs b to f))
   room' = simp length-set free
 
   -- a field of an old place that the first write keeps
-  old : {A : Type 0} (field : Slot K → A) → field (headed to f) ≡ field f → (p : ℕ) (d : Slot K) → p < used → field (get_or (grown xs used k b to f s) p d) ≡ field (get_or xs p d)
+  old : {A : Type 0} (field : Slot K → A) → field (headed xs b to f) ≡ field (get_or xs b f) → (p : ℕ) (d : Slot K) → p < used → field (get_or (grown xs used k b to older f s) p d) ≡ field (get_or xs p d)
   old field e p d l =
-      ap field (get_or-set_other (set xs b (headed to f)) used p (filled k f s) d (λ i. omega arith))
-      ∙ set_field field xs b (headed to f) f in_range f-is e p d
+      ap field (get_or-set_other (set xs b (headed xs b to f)) used p (filled (set xs b (headed xs b to f)) used k older s) d (λ i. omega arith))
+      ∙ set_field field xs b (headed xs b to f) f in_range e p d
 
-  new : (d : Slot K) → get_or (grown xs used k b to f s) used d ≡ filled k f s
-  new d = get_or-set_same (set xs b (headed to f)) used (filled k f s) d room'
+  new : (d : Slot K) → get_or (grown xs used k b to older f s) used d ≡ filled (set xs b (headed xs b to f)) used k older s
+  new d = get_or-set_same (set xs b (headed xs b to f)) used (filled (set xs b (headed xs b to f)) used k older s) d room'
 
-  head_at : (p : ℕ) (d : Slot K) → (get_or (grown xs used k b to f s) p d).head.past ≡ (get_or (set xs b (headed to f)) p d).head.past
-  head_at p d = set_field (λ t. t.head.past) (set xs b (headed to f)) used (filled k f s) s room' s-is refl p d
+  head_at : (p : ℕ) (d : Slot K) → (get_or (grown xs used k b to older f s) p d).head.past ≡ (get_or (set xs b (headed xs b to f)) p d).head.past
+  head_at p d = set_field (λ t. t.head.past) (set xs b (headed xs b to f)) used (filled (set xs b (headed xs b to f)) used k older s) s room' refl p d
 
-  pushed : (d : Slot K) → Pushed used b (λ c. (get_or xs c d).head.past) (λ q. (get_or xs q d).next.past) (λ c. (get_or (grown xs used k b to f s) c d).head.past) (λ q. (get_or (grown xs used k b to f s) q d).next.past)
+  pushed : (d : Slot K) → Pushed used b (λ c. (get_or xs c d).head.past) (λ q. (get_or xs q d).next.past) (λ c. (get_or (grown xs used k b to older f s) c d).head.past) (λ q. (get_or (grown xs used k b to older f s) q d).next.past)
   pushed d = record {
-    head_old = λ c ne. head_at c d ∙ ap (λ (t : Slot K). t.head.past) (get_or-set_other xs b c (headed to f) d ne);
-    head_new = head_at b d ∙ ap (λ (t : Slot K). t.head.past) (get_or-set_same xs b (headed to f) d in_range) ∙ to_is;
+    head_old = λ c ne. head_at c d ∙ ap (λ (t : Slot K). t.head.past) (get_or-set_other xs b c (headed xs b to f) d ne);
+    head_new = head_at b d ∙ ap (λ (t : Slot K). t.head.past) (get_or-set_same xs b (headed xs b to f) d in_range) ∙ to_is;
     next_old = λ q l. old (λ t. t.next.past) refl q d l;
-    next_new = ap (λ (t : Slot K). t.next.past) (new d) ∙ ap (λ (t : Slot K). t.head.past) (get_or_read xs b f in_range f-is d);
+    next_new = ap (λ (t : Slot K). t.next.past) (new d) ∙ ap (λ (t : Link). t.past) older_is ∙ ap (λ (t : Slot K). t.head.past) (get_or_default xs b f d in_range);
   }
 
-  length_grown : length (grown xs used k b to f s) ≡ length xs
+  length_grown : length (grown xs used k b to older f s) ≡ length xs
   length_grown = simp length-set
 
-  linked_more : {mark : K → ℕ} → mark k % length xs ≡ b → Linked mark xs used → Absent (keys xs used) k → Linked mark (grown xs used k b to f s) (used + 1)
+  linked_more : {mark : K → ℕ} → mark k % length xs ≡ b → Linked mark xs used → Absent (keys xs used) k → Linked mark (grown xs used k b to older f s) (used + 1)
   linked_more home linked fresh = record {
     chains = λ d. simp length-set
         (chained_more (linked.chains d) (pushed d) in_range k home
@@ -80,19 +79,20 @@ module _ {K : Type 0} (xs : List (Slot K)) (used : ℕ) (free : used < length xs
         (ap (λ (t : Slot K). t.key) (new d)));
   }
 
-  keys_more : keys (grown xs used k b to f s) (used + 1) ≡ keys xs used ++ (k ∷ [])
+  keys_more : keys (grown xs used k b to older f s) (used + 1) ≡ keys xs used ++ (k ∷ [])
   keys_more =
       let key : Slot K → K = λ t. t.key in
-      let same : map key (set xs b (headed to f)) ≡ map key xs =
-      map-set key xs b (headed to f)
-      ∙ ap (set (map key xs) b) (sym (get_or-map key xs b f f.key in_range ∙ ap key (sym f-is)))
+      let ys : List (Slot K) = set xs b (headed xs b to f) in
+      let same : map key ys ≡ map key xs =
+      map-set key xs b (headed xs b to f)
+      ∙ ap (set (map key xs) b) (sym (get_or-map key xs b f f.key in_range))
       ∙ set-get_or (map key xs) b f.key in
-      ap (map key) (take_more_set (set xs b (headed to f)) used (filled k f s) room')
-      ∙ map_push key (take used (set xs b (headed to f))) (filled k f s)
-      ∙ ap (λ ys. ys ++ (k ∷ [])) (sym (take-map key used (set xs b (headed to f))) ∙ ap (take used) same ∙ take-map key used xs)
+      ap (map key) (take_more_set ys used (filled ys used k older s) room')
+      ∙ map_push key (take used ys) (filled ys used k older s)
+      ∙ ap (λ zs. zs ++ (k ∷ [])) (sym (take-map key used ys) ∙ ap (take used) same ∙ take-map key used xs)
 
   -- the slots are as many, the keys one more, and the chains as sound as before
-  pub written : (length (grown xs used k b to f s) ≡ length xs)
-      × (keys (grown xs used k b to f s) (used + 1) ≡ keys xs used ++ (k ∷ []))
-      × ((mark : K → ℕ) → mark k % length xs ≡ b → Linked mark xs used → Absent (keys xs used) k → Linked mark (grown xs used k b to f s) (used + 1))
+  pub written : (length (grown xs used k b to older f s) ≡ length xs)
+      × (keys (grown xs used k b to older f s) (used + 1) ≡ keys xs used ++ (k ∷ []))
+      × ((mark : K → ℕ) → mark k % length xs ≡ b → Linked mark xs used → Absent (keys xs used) k → Linked mark (grown xs used k b to older f s) (used + 1))
   written = (length_grown, keys_more, λ mark home linked fresh. linked_more home linked fresh)

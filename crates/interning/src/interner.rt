@@ -24,7 +24,7 @@ pub struct Interner<'a, K: Key> {
 
 impl<'a, K: Key> Interner<'a, K> {
     ghost use Rattle.interning.specs.Interned.{Interned};
-    ghost use Rattle.interning.specs.Model.{held, capacity};
+    ghost use Rattle.interning.specs.Model.{held, capacity, SameSlots};
     ghost use Rattle.interning.specs.Places.{Read, Sought};
 
     // An empty interner over the slots.
@@ -39,8 +39,7 @@ impl<'a, K: Key> Interner<'a, K> {
     // Forgets every key.
     pub fn clear(&mut self)
         ensures held { held self.new ≡ [] }
-        ensures capacity { capacity self.new ≡ capacity self.old }
-        ensures named { self.new.slots.ghost_name ≡ self.old.slots.ghost_name }
+        ensures slots { SameSlots self.old self.new }
     {
         unlink(self.slots);
         self.used = 0;
@@ -66,8 +65,7 @@ impl<'a, K: Key> Interner<'a, K> {
     // The place of a key, which takes the next one where it has none.
     pub fn intern(&mut self, key: K) -> Result<u32, Full>
         ensures interned { Interned (capacity self.old) (held self.old) key result (held self.new) }
-        ensures capacity { capacity self.new ≡ capacity self.old }
-        ensures named { self.new.slots.ghost_name ≡ self.old.slots.ghost_name }
+        ensures slots { SameSlots self.old self.new }
     {
         if let Some(place) = self.find(key) {
             return Ok(place);

@@ -4,12 +4,13 @@
 ghost use Rattle.std.specs.Prelude.{◌≡◌, ◌<◌, length};
 ghost use Rattle.interning.specs.Chain.{Linked, Seeks};
 ghost use Rattle.interning.specs.Interned.{Placed};
-ghost use Rattle.interning.specs.Model.{held, capacity};
+ghost use Rattle.interning.specs.Model.{held, capacity, SameSlots};
 ghost use Rattle.interning.specs.Places.{Absent, Sought};
 
 use super::Interner;
 use crate::key::Key;
 use crate::slot::{Link, Slot};
+use std::mem;
 
 // Takes every place out of the chains.
 pub(super) fn unlink<K: Key>(slots: &mut [Slot<K>])
@@ -26,21 +27,21 @@ impl<'a, K: Key> Interner<'a, K> {
     pub(super) fn newest(&self, key: K) -> Link
         ensures { Seeks K.mark K.eq self.now.slots.now self.now.used key result.past }
     {
-        let slots = &*self.slots;
-        if slots.len() == 0 {
+        if self.slots.is_empty() {
             return Link::none();
         }
-        slots[key.hash() as usize % slots.len()].head
+        self.slots[key.hash() as usize % self.slots.len()].head
     }
 
     // The place of a key that is looked for from `cursor` on, through older and older places of the bucket.
     pub(super) fn walk(&self, mut cursor: Link, key: K) -> Option<u32>
-        ensures { Seeks K.mark K.eq self.now.slots.now self.now.used key cursor.past → Sought (held self.now) key result }
+        requires { Seeks K.mark K.eq self.now.slots.now self.now.used key cursor.past }
+        ensures { Sought (held self.now) key result }
     {
         let slots = &*self.slots;
         for _ in 0..self.used {
             let place = cursor.place()?;
-            let slot = slots.get(place as usize)?;
+            let slot = &slots[place as usize];
             if slot.key == key {
                 return Some(place);
             }
@@ -54,20 +55,15 @@ impl<'a, K: Key> Interner<'a, K> {
         requires free { self.old.used < capacity self.old }
         requires absent { Absent (held self.old) key }
         ensures placed { Placed (capacity self.old) (held self.old) key result (held self.new) }
-        ensures capacity { capacity self.new ≡ capacity self.old }
-        ensures named { self.new.slots.ghost_name ≡ self.old.slots.ghost_name }
+        ensures slots { SameSlots self.old self.new }
     {
         let place = self.used;
         let slots = &mut *self.slots;
         let bucket = key.hash() as usize % slots.len();
-        let mut first = slots[bucket];
-        let older = first.head;
-        first.head = Link::to(place);
-        slots[bucket] = first;
-        let mut fresh = slots[place as usize];
+        let older = mem::replace(&mut slots[bucket].head, Link::to(place));
+        let fresh = &mut slots[place as usize];
         fresh.key = key;
         fresh.next = older;
-        slots[place as usize] = fresh;
         self.used = place + 1;
         place
     }

@@ -6,17 +6,6 @@ use Rattle.interning.proofs.Sound.{linked_out, held_used}
 use Rattle.interning.proofs.Writes.{written}
 use Rattle.interning.proofs.interner.Interner.append.Goals as goal
 
-pub offset_bounds-slots-bucket : goal.offset_bounds-slots-bucket
-offset_bounds-slots-bucket g c =
-    let n = length c.args.self.now.slots.now in
-    let l : c.hash.result % n < n = mod-lt c.hash.result (omega arith) in
-    search rules
-
-pub offset_bounds-slots-place : goal.offset_bounds-slots-place
-offset_bounds-slots-place g c =
-    let l : c.args.self.now.used < length c.args.self.now.slots.now = omega arith in
-    search rules
-
 pub returns : goal.returns
 returns g c =
     let i = c.args.self.now in

@@ -11,12 +11,6 @@ use Rattle.interning.proofs.interner.Interner.walk.Goals as goal
 lawful : (g : Over) → Lawful g.K.Key.mark g.K.PartialEq.eq
 lawful g = record { exact = λ x y. (g.met.K.Key.sound x y, λ e. ap (g.K.PartialEq.eq x) (sym e) ∙ g.met.K.Eq.laws.refl x); marked = g.met.K.Key.marked }
 
-pub loop-init : goal.loop-init
-loop-init g c = record { left = omega (arith, c.requires.bound); seeks = c.requires }
-
-pub bounds-slots-place : goal.bounds-slots-place
-bounds-slots-place g c = omega (arith, c.args.self.now.within, c.in_ok-place.ensures, c.loop.invariant.left)
-
 pub returns-in_err-place : goal.returns-in_err-place
 returns-in_err-place g c =
     let i = c.args.self.now in

@@ -1,13 +1,6 @@
-use Rattle.std.proofs.Common.{length, get_or, arith, rules}
-use Rattle.interning.proofs.Writes.{Emptied, emptied_more, linked_none}
+use Rattle.std.proofs.Common.{length, arith, rules}
+use Rattle.interning.proofs.Writes.{Emptied, linked_none}
 use Rattle.interning.proofs.interner.chains.unlink.Goals as goal
-
-pub loop-slot-preserved : goal.loop-slot-preserved
-loop-slot-preserved g c =
-    let old = get_or c.loop-slot.slots c.loop-slot.slot-index c.slot-item.result in
-    emptied_more c.loop-slot.slots c.loop-slot.slot-index
-    (record { key = old.key; head = c.none-slot.result; next = old.next })
-    (omega arith) c.none-slot.ensures c.loop-slot.invariant
 
 pub returns : goal.returns
 returns g c =

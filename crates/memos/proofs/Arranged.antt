@@ -1,5 +1,5 @@
 -- How noting an answer leaves the two halves arranged. Assumes nothing.
-use Rattle.std.proofs.Common.{◌≡◌, ℕ, Bool, true, false, ◌⊎◌, List, [], ◌++◌, length, sym, ap, ◌∙◌, subst, inl, inr, ⊎_elim}
+use Rattle.std.proofs.Common.{Ok, ◌≡◌, ℕ, Bool, true, false, ◌⊎◌, List, [], ◌++◌, length, sym, ap, ◌∙◌, subst, inl, inr, ⊎_elim}
 use mathlib.Core.Logic.{∥∥₁_elim}
 use native.Mathlib.Nat.{ℕ_set}
 use Rattle.std.proofs.lemmas.List.{nil_from_length}
@@ -71,7 +71,7 @@ module _ (q : Question) (a : Diagram) (fs ss fs' ss' : List Note) where
 
   module _ (w : Bool) (room room-s : ℕ) where
     -- while the first half is in use
-    pub first_step : Arranged First w room fs ss → Shared room fs ss q a true fs' ss' → Step First w room
+    pub first_step : Arranged First w room fs ss → Shared room fs ss q a (Ok tt) fs' ss' → Step First w room
     first_step arr (inl (none, alt)) = record {
       sound = first_noted alt;
       new = (first_noted {k = Unit {0}} alt).new tt;
@@ -90,7 +90,7 @@ module _ (q : Question) (a : Diagram) (fs ss fs' ss' : List Note) where
         }
 
     -- while the second half is in use
-    pub second_step : Arranged Second w room fs ss → Shared room-s ss fs q a true ss' fs' → Step Second w room
+    pub second_step : Arranged Second w room fs ss → Shared room-s ss fs q a (Ok tt) ss' fs' → Step Second w room
     second_step arr (inl (none, alt)) = record {
       sound = second_noted alt;
       new = (second_noted {k = Unit {0}} alt).new tt;

@@ -1,5 +1,8 @@
 -- What a half of the keeping memo says of its notes. Assumes nothing.
-use Rattle.std.proofs.Common.{◌≡◌, ℕ, ◌≤◌, Bool, true, false, List, [], length, get_or, set, sym, ap, ◌∙◌, subst, inl, inr, ⊎_elim, arith}
+use Rattle.std.proofs.Common.{◌≡◌, ℕ, ◌≤◌, true, false, List, [], length, get_or, set, Ok, Err, Result, sym, refl, ap, ◌∙◌, subst, inl, inr, ⊎_elim, arith}
+use Rattle.std.proofs.lemmas.Bool.{both_ways}
+use Rattle.std.specs.Result.{IsErr}
+use Rattle.interning.specs.declared.interner.Full.{Full}
 use Rattle.interning.specs.Interned.{Placed, Appended}
 use Rattle.interning.specs.Model.{held}
 use Rattle.interning.specs.Places.{Stands, Only}
@@ -9,14 +12,14 @@ use Rattle.memos.specs.declared.question.Question.{Question}
 use Rattle.memos.specs.declared.half.Half.{Half}
 use Rattle.memos.specs.Notes.{Note}
 use Rattle.memos.specs.Noting.{asked, noted}
-use Rattle.memos.specs.Halves.{paired, half_notes, Alone, Put, Ready}
+use Rattle.memos.specs.Halves.{paired, half_notes, Alone, Lacks, Put}
 use Rattle.memos.proofs.Noting.{asked_in, noted_old, noted_new}
 use Rattle.memos.proofs.Paired.{length_paired, in_paired, paired_set, paired_push, asked_absent}
 
-module _ (h : Half) (ready : Ready h) where
+module _ (h : Half) where
   -- each question held has a place for its answer
   pub half_fits : length (held h.interner) ≤ length h.answers.now
-  half_fits = omega (arith, held_fits h.interner ready.sound, ready.roomy)
+  half_fits = omega (arith, held_fits h.interner, h.roomy)
 
   -- there are as many notes as questions held
   pub half_length : length (half_notes h) ≡ length (held h.interner)
@@ -42,7 +45,12 @@ module _ (q : Question) (a : Diagram) (qs : List Question) (ds : List Diagram) (
           (λ j. paired (app.more j) (set ds (app.last j) a)) ∙ paired_push q a qs ds (omega (arith, app.last, app.free)) ∙ sym (noted_new q a (paired qs ds) (asked_absent q qs ds app.absent))
 
 -- what is put into an empty half is its one note, if there is a place
-pub put_alone : (room room' : ℕ) (ns ns' : List Note) (q : Question) (a : Diagram) (r : Bool) → ns ≡ [] → room' ≡ room → Put room' ns q a r ns' → Alone room q a ns'
+pub put_alone : (room room' : ℕ) (ns ns' : List Note) (q : Question) (a : Diagram) (r : Result (Unit {0}) Full) → ns ≡ [] → room' ≡ room → Put room' ns q a r ns' → Alone room q a ns'
 unfolding asked
-put_alone room room' ns ns' q a true none same put = inl (put ∙ ap (noted q a) none)
-put_alone room room' ns ns' q a false none same put = inr (omega (arith, put.0.full, ap length none), put.1 ∙ none)
+put_alone room room' ns ns' q a (Ok u) none same put = inl (put ∙ ap (noted q a) none)
+put_alone room room' ns ns' q a (Err e) none same put = inr (omega (arith, put.0.full, ap length none), put.1 ∙ none)
+
+-- what is refused is no note
+pub put_refused : (room : ℕ) (ns ns' : List Note) (q : Question) (a : Diagram) (r : Result (Unit {0}) Full) → IsErr r → Lacks room ns q → ns' ≡ ns → Put room ns q a r ns'
+put_refused room ns ns' q a (Ok u) refused lacks same = absurd (both_ways false refl refused)
+put_refused room ns ns' q a (Err e) refused lacks same = (lacks, same)

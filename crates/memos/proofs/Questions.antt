@@ -4,8 +4,7 @@ use Rattle.std.proofs.lemmas.Bool.{and_parts, and_from, eqb-true, eq-eqb}
 use Rattle.memos.specs.declared.diagram.Diagram.{Diagram}
 use Rattle.memos.specs.declared.question.Question.{Question}
 use Rattle.memos.specs.declared.question.Question.TheVariants.{Either, Both, Less, Turn, Off, On}
-use Rattle.memos.specs.declared.question.Words.{Words}
-use Rattle.memos.specs.Questions.{words, same_question}
+use Rattle.memos.specs.Questions.{Words, words, same_question}
 
 diagram : ℕ → Diagram
 diagram n = record { code = n }

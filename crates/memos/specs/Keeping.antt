@@ -1,5 +1,6 @@
 -- The keeping memo: its notes, and what it promises beyond other memos. Assumes nothing.
 use Rattle.std.specs.Prelude.{◌≡◌, ℕ, ◌+◌, ◌-◌, ◌/◌, ◌<◌, ◌≤◌, min, Bool, true, false, List, [], ◌++◌, length, Ok, Err, Result, ◌≢◌}
+use Rattle.interning.specs.declared.interner.Full.{Full}
 use Rattle.interning.specs.Chain.{room}
 use Rattle.interning.specs.Distinct.{◌∈◌}
 use Rattle.memos.specs.declared.diagram.Diagram.{Diagram}
@@ -75,6 +76,6 @@ pub record Same (m m' : KeepingMemo) : Type 0 where
   pub room : memo_room m' ≡ memo_room m
 
 -- The note is held without a half being emptied, or else it has found no place and nothing has changed.
-abbrev pub Tried : KeepingMemo → Question → Diagram → Bool → KeepingMemo → Type 0
-Tried m q a true m' = Taken m m' q a
-Tried m q a false m' = Stuck m' q × Same m m'
+abbrev pub Tried : KeepingMemo → Question → Diagram → Result (Unit {0}) Full → KeepingMemo → Type 0
+Tried m q a (Ok u) m' = Taken m m' q a
+Tried m q a (Err e) m' = Stuck m' q × Same m m'

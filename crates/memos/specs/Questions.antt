@@ -3,9 +3,13 @@ use Rattle.std.specs.Prelude.{ℕ, Bool, ◌&&◌, ◌==◌}
 use Rattle.interning.specs.Hash.{mixed, finished}
 use Rattle.memos.specs.declared.question.Question.{Question}
 use Rattle.memos.specs.declared.question.Question.TheVariants.{Either, Both, Less, Turn, Off, On}
-use Rattle.memos.specs.declared.question.Words.{Words}
 
 -- a question's kind and operands as numbers
+pub record Words : Type 0 where
+  pub kind : ℕ
+  pub left : ℕ
+  pub right : ℕ
+
 abbrev pub words : Question → Words
 words (Either f g) = record { kind = 0; left = f.code; right = g.code }
 words (Both f g) = record { kind = 1; left = f.code; right = g.code }

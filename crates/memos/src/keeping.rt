@@ -1,11 +1,9 @@
 //! The keeping memo, over lent places: it holds and recalls every note until it is full.
 //! Its places are two halves. Notes go into the current one; when that is full the other takes its turn and is emptied first,
 //! so that of a full memo the newer half is always left. A question has a note in one half at most.
-ghost use Rattle.std.specs.Prelude.{◌+◌, ◌≤◌, length};
-ghost use Rattle.interning.specs.Model.{Sound};
+ghost use Rattle.std.specs.Prelude.{◌+◌, ◌≤◌};
 ghost use Rattle.memos.specs.Arranged.{Arranged};
 ghost use Rattle.memos.specs.Halves.{half_notes, half_room};
-ghost use Rattle.memos.specs.Questions.{question_mark};
 
 use crate::diagram::Diagram;
 use crate::half::Half;
@@ -15,7 +13,7 @@ use interning::slot::Slot;
 mod noting;
 
 // The size is not from 1 to 65,536, or too few places are handed over.
-#[derive(Clone, Copy)]
+#[derive(Clone, Copy, PartialEq, Eq, Debug)]
 pub struct SizeDenied;
 
 // As many slots and answers as a memo is to have places.
@@ -39,11 +37,6 @@ pub struct KeepingMemo<'a> {
     current: Current,
     // Nothing noted since the memo was last emptied is lost.
     whole: bool,
-    // In each half the questions are in chains, and each place has one for an answer.
-    ghost first_sound: { Sound question_mark first.interner },
-    ghost first_roomy: { half_room first ≤ length first.answers.now },
-    ghost second_sound: { Sound question_mark second.interner },
-    ghost second_roomy: { half_room second ≤ length second.answers.now },
     // The halves are equal, or the first has one place more.
     ghost larger: { half_room second ≤ half_room first },
     ghost even: { half_room first ≤ half_room second + 1 },

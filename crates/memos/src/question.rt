@@ -1,8 +1,8 @@
 //! Questions on diagrams, as keys of the interning memory.
-//! A question is told by three numbers, its kind and its operands: hash and comparison go over these alone.
+//! A question's hash goes over three numbers, its kind and its operands.
 ghost use Rattle.std.specs.Prelude.{◌≡◌};
-ghost use Rattle.memos.specs.Questions.{question_mark, same_question, words};
-ghost use Rattle.std.proofs.Common.{rules};
+ghost use Rattle.memos.specs.Questions.{question_mark};
+ghost use Rattle.std.proofs.Common.{ap, rules};
 
 use crate::diagram::Diagram;
 use interning::hashing::{finish, mix};
@@ -19,72 +19,22 @@ pub enum Question {
     On(Diagram, u8),
 }
 
-// A question's kind and operands as numbers.
-#[derive(Clone, Copy)]
-struct Words {
-    kind: u32,
-    left: u32,
-    right: u32,
-}
-
-impl Question {
-    fn words(self) -> Words
-        ensures { result ≡ words self }
-    {
-        match self {
-            Question::Either(f, g) => Words {
-                kind: 0,
-                left: f.code,
-                right: g.code,
-            },
-            Question::Both(f, g) => Words {
-                kind: 1,
-                left: f.code,
-                right: g.code,
-            },
-            Question::Less(f, g) => Words {
-                kind: 2,
-                left: f.code,
-                right: g.code,
-            },
-            Question::Turn(f) => Words {
-                kind: 3,
-                left: f.code,
-                right: 0,
-            },
-            Question::Off(f, v) => Words {
-                kind: 4,
-                left: f.code,
-                right: u32::from(v),
-            },
-            Question::On(f, v) => Words {
-                kind: 5,
-                left: f.code,
-                right: u32::from(v),
-            },
-        }
-    }
-}
-
 impl Key for Question {
     ghost mark = { question_mark };
 
-    ghost equal = { same_question };
-
     ghost sound = { Prim.search rules };
 
-    ghost whole = { Prim.search rules };
-
-    ghost marked = { Prim.search rules };
+    ghost marked = { λ x y e. let same : x ≡ y = Prim.search rules in ap question_mark same };
 
     fn hash(&self) -> u32 {
-        let words = self.words();
-        finish(mix(mix(words.kind, words.left), words.right))
-    }
-
-    fn same(&self, other: &Question) -> bool {
-        let words = self.words();
-        let others = other.words();
-        words.kind == others.kind && words.left == others.left && words.right == others.right
+        let (kind, left, right) = match *self {
+            Question::Either(f, g) => (0, f.code, g.code),
+            Question::Both(f, g) => (1, f.code, g.code),
+            Question::Less(f, g) => (2, f.code, g.code),
+            Question::Turn(f) => (3, f.code, 0),
+            Question::Off(f, v) => (4, f.code, u32::from(v)),
+            Question::On(f, v) => (5, f.code, u32::from(v)),
+        };
+        finish(mix(mix(kind, left), right))
     }
 }

@@ -14,10 +14,7 @@ fn question(v: u8) -> Question {
 }
 
 fn answer(v: u8) -> Diagram {
-    match Diagram::node(u32::from(v)) {
-        Some(diagram) => diagram,
-        None => Diagram::none(),
-    }
+    Diagram::node(u32::from(v)).unwrap_or(Diagram::none())
 }
 
 // A memo that still has every note tells an answer to what it was just told.

@@ -2,7 +2,7 @@
 //! Nothing is lost by that as long as the second half is still empty, and otherwise the half in use is spared.
 ghost use Rattle.std.specs.Prelude.{◌≡◌, true, [], length};
 ghost use Rattle.memos.specs.Arranged.{Follows};
-ghost use Rattle.memos.specs.Halves.{half_notes, half_room, Ready, Shared};
+ghost use Rattle.memos.specs.Halves.{half_notes, half_room, Shared};
 ghost use Rattle.memos.specs.Keeping.{memo_notes, memo_room, recent, lent_room, Fresh, Lent, Holding, Stuck, Taken, Tried};
 ghost use Rattle.memos.specs.Notes.{Noted, Recalled, Told};
 
@@ -11,6 +11,7 @@ use crate::diagram::Diagram;
 use crate::half::Half;
 use crate::memo::Memo;
 use crate::question::Question;
+use interning::interner::Full;
 use interning::slot::Slot;
 
 impl<'a> Places<'a> {
@@ -25,9 +26,10 @@ impl<'a> Places<'a> {
         if size < 1 || size > 65_536 || slots.len() < size || answers.len() < size {
             return Err(SizeDenied);
         }
-        let (slots, _) = slots.split_at_mut(size);
-        let (answers, _) = answers.split_at_mut(size);
-        Ok(Places { slots, answers })
+        Ok(Places {
+            slots: &mut slots[..size],
+            answers: &mut answers[..size],
+        })
     }
 }
 
@@ -56,19 +58,13 @@ impl<'a> KeepingMemo<'a> {
         ensures { Follows self.now.current (half_room self.now.second) result }
     {
         match self.current {
-            Current::First => {
-                if self.second.capacity() > 0 {
-                    Current::Second
-                } else {
-                    Current::First
-                }
-            }
-            Current::Second => Current::First,
+            Current::First if self.second.capacity() > 0 => Current::Second,
+            _ => Current::First,
         }
     }
 
     // Holds a note without emptying a half, unless it finds no place.
-    fn hold(&mut self, question: Question, answer: Diagram) -> bool
+    fn hold(&mut self, question: Question, answer: Diagram) -> Result<(), Full>
         ensures { Tried self.old question answer result self.new }
     {
         match self.current {
@@ -77,49 +73,39 @@ impl<'a> KeepingMemo<'a> {
         }
     }
 
-    // Holds a note that has found no place, in the half whose turn it is.
+    // Empties the half whose turn it is for a note. The first one is full by then; by emptying the second nothing is lost if it was empty.
     fn turn(&mut self, question: Question, answer: Diagram)
         requires { Stuck self.old question }
         ensures { Taken self.old self.new question answer }
     {
         match self.next() {
-            Current::First => self.restart_first(question, answer),
-            Current::Second => self.start_second(question, answer),
+            Current::First => {
+                self.first.restart(question, answer);
+                self.whole = false;
+                self.current = Current::First;
+            }
+            Current::Second => {
+                self.whole &= self.second.is_empty();
+                self.second.restart(question, answer);
+                self.current = Current::Second;
+            }
         }
-    }
-
-    // Empties the first half for a note.
-    fn restart_first(&mut self, question: Question, answer: Diagram)
-        requires { Stuck self.old question × Follows self.old.current (half_room self.old.second) Current.First }
-        ensures { Taken self.old self.new question answer }
-    {
-        self.first.restart(question, answer);
-        self.whole = false;
-        self.current = Current::First;
-    }
-
-    // Empties the second half for a note, by which nothing is lost if it was empty.
-    fn start_second(&mut self, question: Question, answer: Diagram)
-        requires { Stuck self.old question × Follows self.old.current (half_room self.old.second) Current.Second }
-        ensures { Taken self.old self.new question answer }
-    {
-        self.whole = self.whole & self.second.is_empty();
-        self.second.restart(question, answer);
-        self.current = Current::Second;
     }
 }
 
 // Holds a note: in the other half where that has its question, else in the current one, unless it finds no place.
-fn hold_in(current: &mut Half, other: &mut Half, question: Question, answer: Diagram) -> bool
-    requires { (Ready current.old) × (Ready other.old) }
-    ensures ready { Ready current.new }
-    ensures ready_other { Ready other.new }
+fn hold_in(
+    current: &mut Half,
+    other: &mut Half,
+    question: Question,
+    answer: Diagram,
+) -> Result<(), Full>
     ensures shared { Shared (half_room current.old) (half_notes current.old) (half_notes other.old) question answer result (half_notes current.new) (half_notes other.new) }
     ensures room { half_room current.new ≡ half_room current.old }
     ensures room_other { half_room other.new ≡ half_room other.old }
 {
     if other.replace(question, answer) {
-        return true;
+        return Ok(());
     }
     current.put(question, answer)
 }
@@ -144,7 +130,7 @@ impl Memo for KeepingMemo<'_> {
         ensures holding { Holding self.old.whole self.new.whole (memo_room self.old) (recent self.old) (memo_notes self.old) (memo_notes self.new) question answer }
         ensures room { memo_room self.new ≡ memo_room self.old }
     {
-        if !self.hold(question, answer) {
+        if self.hold(question, answer).is_err() {
             self.turn(question, answer);
         }
     }

@@ -10,6 +10,6 @@ pub returns : goal.returns
 returns c =
     let h = c.args.self.now in
     let long : c.len.result ≡ length (held h.interner) = search rules in (
-      (λ e. nil_from_length (half_notes h) (omega (arith, half_length h c.requires, long, eqb-true c.len.result 0 e))),
-      (λ e. eq-eqb c.len.result 0 (omega (arith, half_length h c.requires, long, ap length e))),
+      (λ e. nil_from_length (half_notes h) (omega (arith, half_length h, long, eqb-true c.len.result 0 e))),
+      (λ e. eq-eqb c.len.result 0 (omega (arith, half_length h, long, ap length e))),
     )

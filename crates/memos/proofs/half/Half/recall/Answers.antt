@@ -12,15 +12,13 @@ returns-in_err-place c =
     let h = c.args.self.now in
     let q = c.args.question in
     subst (Told (Unit {0}) (half_notes h) q) (sym c.from_residual.ensures)
-    (λ k. unasked q (half_notes h) (asked_absent q (held h.interner) h.answers.now (c.in_err-place.ensures c.requires.sound)))
+    (λ k. unasked q (half_notes h) (asked_absent q (held h.interner) h.answers.now c.in_err-place.ensures))
 
 pub bounds-self-place : goal.bounds-self-place
-bounds-self-place c =
-    let h = c.args.self.now in
-    omega (arith, (c.in_ok-place.ensures c.requires.sound).0.within, half_fits h c.requires)
+bounds-self-place c = omega (arith, c.in_ok-place.ensures.0.within, half_fits c.args.self.now)
 
 pub returns : goal.returns
 returns c =
     let h = c.args.self.now in
-    let stands = (c.in_ok-place.ensures c.requires.sound).0 in
-    in_paired c.args.question (held h.interner) h.answers.now c.in_ok-place.place c.args.question _ stands.within (omega (arith, stands.within, half_fits h c.requires)) (stands.here c.args.question)
+    let stands = c.in_ok-place.ensures.0 in
+    in_paired c.args.question (held h.interner) h.answers.now c.in_ok-place.place c.args.question _ stands.within (omega (arith, stands.within, half_fits h)) (stands.here c.args.question)

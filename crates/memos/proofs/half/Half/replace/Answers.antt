@@ -1,4 +1,4 @@
-use Rattle.std.proofs.Common.{◌≡◌, false, sym, refl, ap, arith, length-set}
+use Rattle.std.proofs.Common.{◌≡◌, false, sym, refl, ap, arith}
 use Rattle.interning.specs.Model.{held}
 use Rattle.memos.specs.Halves.{half_notes}
 use Rattle.memos.specs.Noting.{asked}
@@ -8,31 +8,28 @@ use Rattle.memos.proofs.Paired.{asked_absent, paired_set}
 use Rattle.memos.proofs.half.Half.replace.Goals as goal
 
 pub bounds-self-place : goal.bounds-self-place
-bounds-self-place c =
-    let h = c.args.self.now in
-    omega (arith, (c.in-Some.ensures c.requires.sound).0.within, half_fits h c.requires)
+bounds-self-place c = omega (arith, c.in-Some.ensures.0.within, half_fits c.args.self.now)
 
-pub returns-in-Some : goal.returns-in-Some
-returns-in-Some c =
+pub returns : goal.returns
+returns c =
     let h = c.args.self.now in
     let q = c.args.question in
-    let found = c.in-Some.ensures c.requires.sound in
+    let found = c.in-Some.ensures in
     record {
-      ready = record { sound = c.requires.sound; roomy = simp length-set c.requires.roomy };
-      asked = sym (asked_stands q c.args.answer (held h.interner) h.answers.now c.in-Some.place (half_fits h c.requires) found.0);
+      asked = sym (asked_stands q c.args.answer (held h.interner) h.answers.now c.in-Some.place (half_fits h) found.0);
       notes = paired_set q c.args.answer (held h.interner) h.answers.now c.in-Some.place q found.0.within (found.0.here q) found.1;
       room = refl;
     }
 
-pub returns-in-None : goal.returns-in-None
-returns-in-None c =
+pub returns-in_default : goal.returns-in_default
+returns-in_default c =
     let h = c.args.self.now in
-    let none = asked_absent c.args.question (held h.interner) h.answers.now (c.in-None.ensures c.requires.sound) in
-    record { ready = c.requires; asked = sym none; notes = sym (answered_unasked c.args.question c.args.answer (half_notes h) none); room = refl }
+    let none = asked_absent c.args.question (held h.interner) h.answers.now c.in_default.ensures in
+    record { asked = sym none; notes = sym (answered_unasked c.args.question c.args.answer (half_notes h) none); room = refl }
 
 pub returns-then-is_empty : goal.returns-then-is_empty
 unfolding asked
 returns-then-is_empty c =
     let h = c.args.self.now in
     let none : asked c.args.question (half_notes h) ≡ false = ap (asked c.args.question) (c.if-is_empty.ensures.0 refl) in
-    record { ready = c.requires; asked = sym none; notes = sym (answered_unasked c.args.question c.args.answer (half_notes h) none); room = refl }
+    record { asked = sym none; notes = sym (answered_unasked c.args.question c.args.answer (half_notes h) none); room = refl }

@@ -5,8 +5,4 @@ use Rattle.memos.proofs.half.Half.restart.Goals as goal
 pub returns : goal.returns
 returns c =
     let cleared = c.clear.ensures in
-    record {
-      ready = c.put.ensures.ready;
-      notes = put_alone _ _ _ _ c.args.question c.args.answer c.put.result cleared.notes cleared.room c.put.ensures.put;
-      room = c.put.ensures.room ∙ cleared.room;
-    }
+    record { notes = put_alone _ _ _ _ c.args.question c.args.answer c.put.result cleared.notes cleared.room c.put.ensures.put; room = c.put.ensures.room ∙ cleared.room }

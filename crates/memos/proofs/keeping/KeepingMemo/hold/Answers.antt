@@ -8,10 +8,6 @@ invariant_of-self c =
     let m = c.args.self.now in
     let e = c.hold_in.ensures in
     record {
-      first_sound = e.ready.sound;
-      first_roomy = e.ready.roomy;
-      second_sound = e.ready_other.sound;
-      second_roomy = e.ready_other.roomy;
       larger = omega (arith, e.room, e.room_other, m.larger);
       even = omega (arith, e.room, e.room_other, m.even);
       arranged = ∣ arranged_first c.args.question c.args.answer m.current m.whole _ _ _ _ _ _ e.room c.hold_in.result c.in-First.is (arranged_out m.current m.arranged) e.shared ∣₁;
@@ -22,10 +18,6 @@ invariant_of-self-in-Second c =
     let m = c.args.self.now in
     let e = c.hold_in-in-Second.ensures in
     record {
-      first_sound = e.ready_other.sound;
-      first_roomy = e.ready_other.roomy;
-      second_sound = e.ready.sound;
-      second_roomy = e.ready.roomy;
       larger = omega (arith, e.room, e.room_other, m.larger);
       even = omega (arith, e.room, e.room_other, m.even);
       arranged = ∣ arranged_second c.args.question c.args.answer m.current m.whole _ _ _ _ _ _ e.room_other _ c.hold_in-in-Second.result c.in-Second.is (arranged_out m.current m.arranged) e.shared ∣₁;

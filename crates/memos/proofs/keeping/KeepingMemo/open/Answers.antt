@@ -7,10 +7,6 @@ invariant_of-result c =
     let f = c.open.ensures in
     let s = c.open-2.ensures in
     record {
-      first_sound = f.ready.sound;
-      first_roomy = f.ready.roomy;
-      second_sound = s.ready.sound;
-      second_roomy = s.ready.roomy;
       larger = omega (arith, f.room, s.room, c.split_at_mut-first_slots.ensures.front_len, c.split_at_mut-second_slots.ensures.front_len);
       even = omega (arith, f.room, s.room, c.split_at_mut-first_slots.ensures.front_len, c.split_at_mut-second_slots.ensures.front_len);
       arranged = ∣ arranged_none _ _ _ _ f.notes s.notes ∣₁;

@@ -6,8 +6,6 @@ pub returns : goal.returns
 returns c =
     let told = c.if-replace.ensures in
     record {
-      ready = c.put.ensures.ready;
-      ready_other = told.ready;
       shared = shared_put c.args.question c.args.answer c.put.result _ _ _ _ _ (sym told.asked) told.notes c.put.ensures.put;
       room = c.put.ensures.room;
       room_other = told.room;

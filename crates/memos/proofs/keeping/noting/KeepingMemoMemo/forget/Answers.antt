@@ -7,10 +7,6 @@ invariant_of-self c =
     let f = c.clear.ensures in
     let s = c.clear-2.ensures in
     record {
-      first_sound = f.ready.sound;
-      first_roomy = f.ready.roomy;
-      second_sound = s.ready.sound;
-      second_roomy = s.ready.roomy;
       larger = omega (arith, f.room, s.room, c.args.self.now.larger);
       even = omega (arith, f.room, s.room, c.args.self.now.even);
       arranged = ∣ arranged_none _ _ _ _ f.notes s.notes ∣₁;

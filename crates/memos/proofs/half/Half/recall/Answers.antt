@@ -14,9 +14,6 @@ returns-in_err-place c =
     subst (Told (Unit {0}) (half_notes h) q) (sym c.from_residual.ensures)
     (λ k. unasked q (half_notes h) (asked_absent q (held h.interner) h.answers.now c.in_err-place.ensures))
 
-pub bounds-self-place : goal.bounds-self-place
-bounds-self-place c = omega (arith, c.in_ok-place.ensures.0.within, half_fits c.args.self.now)
-
 pub returns : goal.returns
 returns c =
     let h = c.args.self.now in

@@ -7,9 +7,6 @@ use Rattle.memos.proofs.Noting.{answered_unasked}
 use Rattle.memos.proofs.Paired.{asked_absent, paired_set}
 use Rattle.memos.proofs.half.Half.replace.Goals as goal
 
-pub bounds-self-place : goal.bounds-self-place
-bounds-self-place c = omega (arith, c.in-Some.ensures.0.within, half_fits c.args.self.now)
-
 pub returns : goal.returns
 returns c =
     let h = c.args.self.now in

@@ -14,17 +14,6 @@ invariant_of-self c =
       arranged = ∣ first_arranged c.args.question c.args.answer m.current m.whole _ _ _ _ (arranged_out m.current m.arranged) c.requires.crowded c.requires.unasked _ e.notes _ ∣₁;
     }
 
-pub returns-in-First : goal.returns-in-First
-returns-in-First c =
-    let m = c.args.self.now in
-    let e = c.restart.ensures in
-    let arr = arranged_out m.current m.arranged in
-    record {
-      true_to = first_sound c.args.question c.args.answer m.current m.whole _ _ _ _ arr c.requires.crowded c.requires.unasked _ e.notes;
-      holding = first_holding c.args.question c.args.answer m.current m.whole _ _ _ _ arr c.requires.crowded c.requires.unasked _ e.notes m.larger m.even c.in-First.ensures;
-      room = λ i. e.room i + half_room m.second;
-    }
-
 pub invariant_of-self-in-Second : goal.invariant_of-self-in-Second
 invariant_of-self-in-Second c =
     let m = c.args.self.now in

@@ -16,7 +16,7 @@ mod noting;
 #[derive(Clone, Copy, PartialEq, Eq, Debug)]
 pub struct SizeDenied;
 
-// As many slots and answers as a memo is to have places.
+// As many slots and answers as a memo is to have places. Two slices, since slots with an answer would be no slots of an interner.
 #[derive(Drop)]
 pub struct Places<'a> {
     slots: &'a mut [Slot<Question>],
@@ -35,7 +35,7 @@ pub struct KeepingMemo<'a> {
     first: Half<'a>,
     second: Half<'a>,
     current: Current,
-    // Nothing noted since the memo was last emptied is lost.
+    // Nothing noted since the memo was last emptied is lost. A flag of its own: it goes with either half.
     whole: bool,
     // The halves are equal, or the first has one place more.
     ghost larger: { half_room second ≤ half_room first },

@@ -6,6 +6,15 @@ use Rattle.memos.proofs.Halves.{half_fits, half_length, put_noted, put_refused}
 use Rattle.memos.proofs.Paired.{asked_absent}
 use Rattle.memos.proofs.half.Half.put.Goals as goal
 
+pub returns : goal.returns
+returns c =
+    let h = c.args.self.now in
+    let e = c.in_ok-place.ensures in
+    record {
+      put = put_noted c.args.question c.args.answer (held h.interner) h.answers.now c.in_ok-place.place (half_fits h) (half_room h) _ h.roomy e.interned;
+      room = e.slots.capacity;
+    }
+
 pub returns-in_err-place : goal.returns-in_err-place
 returns-in_err-place c =
     let h = c.args.self.now in

@@ -18,6 +18,6 @@ impl<'a, K: Key> Interner<'a, K> {
     pub fn capacity(&self) -> u32
         ensures { result ≡ capacity self.now }
     {
-        self.slots.len().min(u32::MAX as usize) as u32
+        u32::try_from(self.slots.len()).unwrap_or(u32::MAX)
     }
 }

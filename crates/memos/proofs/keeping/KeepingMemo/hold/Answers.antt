@@ -27,3 +27,8 @@ pub returns-in-First : goal.returns-in-First
 returns-in-First c =
     let e = c.hold_in.ensures in
     tried_first c.args.question c.args.answer c.args.self.now _ refl refl e.room e.room_other c.hold_in.result c.in-First.is c.in-First.is e.shared
+
+pub returns-in-Second : goal.returns-in-Second
+returns-in-Second c =
+    let e = c.hold_in-in-Second.ensures in
+    tried_second c.args.question c.args.answer c.args.self.now _ refl refl e.room_other e.room c.hold_in-in-Second.result c.in-Second.is c.in-Second.is e.shared

@@ -35,3 +35,14 @@ invariant_of-self-in-Second c =
       even = omega (arith, e.room, m.even);
       arranged = ∣ second_arranged c.args.question c.args.answer m.whole c.is_empty.result _ _ _ _ _ m.current c.in-Second.ensures turn.0 c.requires.unasked c.is_empty.ensures turn.2 e.notes _ turn.1 ∣₁;
     }
+
+pub returns-in-Second : goal.returns-in-Second
+returns-in-Second c =
+    let m = c.args.self.now in
+    let e = c.restart-in-Second.ensures in
+    let turn = after_first m.current m.whole _ _ _ _ c.in-Second.ensures (arranged_out m.current m.arranged) c.requires.crowded in
+    record {
+      true_to = second_sound c.args.question c.args.answer m.whole c.is_empty.result _ _ _ _ _ m.current c.in-Second.ensures turn.0 c.requires.unasked c.is_empty.ensures turn.2 e.notes;
+      holding = second_holding c.args.question c.args.answer m.whole c.is_empty.result _ _ _ _ _ m.current c.in-Second.ensures turn.0 c.requires.unasked c.is_empty.ensures turn.2 e.notes _;
+      room = λ i. half_room m.first + e.room i;
+    }

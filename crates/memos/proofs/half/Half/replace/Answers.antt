@@ -1,4 +1,4 @@
-use Rattle.std.proofs.Common.{◌≡◌, false, sym, refl, ap, arith}
+use Rattle.std.proofs.Common.{◌≡◌, false, sym, refl, ap}
 use Rattle.interning.specs.Model.{held}
 use Rattle.memos.specs.Halves.{half_notes}
 use Rattle.memos.specs.Noting.{asked}
@@ -22,4 +22,11 @@ pub returns-in_default : goal.returns-in_default
 returns-in_default c =
     let h = c.args.self.now in
     let none = asked_absent c.args.question (held h.interner) h.answers.now c.in_default.ensures in
+    record { asked = sym none; notes = sym (answered_unasked c.args.question c.args.answer (half_notes h) none); room = refl }
+
+pub returns-then-is_empty : goal.returns-then-is_empty
+unfolding asked
+returns-then-is_empty c =
+    let h = c.args.self.now in
+    let none : asked c.args.question (half_notes h) ≡ false = ap (asked c.args.question) (c.if-is_empty.ensures.0 refl) in
     record { asked = sym none; notes = sym (answered_unasked c.args.question c.args.answer (half_notes h) none); room = refl }

@@ -18,10 +18,9 @@ fn read_tokens(text: &[u8], n: u8, terms: &mut TermMemory<'_>) -> Result<u32, Ru
     ensures reads { ReadOff n text.now (view terms.new) result }
     ensures room { (view terms.new).room ≡ (view terms.old).room }
 {
-    let mut scanner = Scanner::new(text);
     let mut nest = Nest::new();
     let mut wants = Wants::Item;
-    while let Some(lexeme) = scanner.next() {
+    for lexeme in Scanner::new(text) {
         wants = take(&mut nest, terms, n, wants, lexeme?)?;
     }
     finish(wants, text.len())

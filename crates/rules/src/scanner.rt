@@ -1,7 +1,7 @@
 //! The scanner: a text, token by token. Each call finds the end of one longest run, and the runs of what is left stay as they were.
 ghost use Rattle.std.specs.Prelude.{◌≡◌, ℕ, ◌+◌, ◌-◌, ◌<◌, ◌≤◌, min, true, length, is_some, ◌≢◌, slice_index};
 ghost use Rattle.rules.specs.Classes.{class};
-ghost use Rattle.rules.specs.Scanning.{OneClass, FirstRun, first, rest, ahead};
+ghost use Rattle.rules.specs.Scanning.{OneClass, FirstRun};
 ghost use Rattle.rules.specs.Tokens.{value, classed};
 
 use crate::classes::{Class, class_of};
@@ -60,21 +60,29 @@ pub struct Scanner<'a> {
 }
 
 impl<'a> Scanner<'a> {
+    ghost use Rattle.rules.specs.Scanners.{left};
+    ghost use Rattle.rules.specs.Tokens.{lexemes};
+
     // A scanner at the first byte of a text.
     pub(crate) fn new(text: &'a [u8]) -> Scanner<'a>
-        ensures text { result.text.now ≡ text.now }
-        ensures at { result.at ≡ 0 }
+        ensures { left result ≡ lexemes 0 text.now }
     {
         Scanner { text, at: 0 }
     }
+}
 
-    // The next token, or a fault of the text; none at its end.
-    pub(crate) fn next(&mut self) -> Option<Result<Token, TextFault>>
-        ensures text { self.new.text.now ≡ self.old.text.now }
-        ensures value { result ≡ first (ahead self.old.text.now self.old.at) }
-        ensures after { ahead self.old.text.now self.new.at ≡ rest (ahead self.old.text.now self.old.at) }
-        ensures onward { is_some result ≡ true → self.old.at < self.new.at }
-    {
+// Tells the tokens of the text in their order, and its faults.
+impl Iterator for Scanner<'_> {
+    ghost use Rattle.std.specs.Iterator.{YieldsFirst, item_count};
+    ghost use Rattle.rules.specs.Scanners.{left};
+
+    type Item = Result<Token, TextFault>;
+
+    ghost next_gives = { YieldsFirst left };
+
+    ghost remaining = { item_count left };
+
+    fn next(&mut self) -> Option<Result<Token, TextFault>> {
         let text = self.text;
         let place = run_end(text, self.at, Class::Blank);
         self.at = place;

@@ -14,11 +14,11 @@ fn run_end(text: &[u8], from: usize, class: Class) -> usize
     requires { from ≤ length text.now }
     ensures { OneClass text.now class from result }
 {
-    let mut end = from;
-    while end < text.len() && class_of(text[end]) == class {
-        end += 1;
-    }
-    end
+    let run = text[from..]
+        .iter()
+        .take_while(|&&byte| class_of(byte) == class)
+        .count();
+    from + run
 }
 
 // The end of the run that begins at a place.

@@ -39,16 +39,14 @@ fn first_end(text: &[u8], place: usize) -> usize
 fn value_of(digits: &[u8]) -> u16
     ensures { result ≡ value digits.now }
 {
-    if digits.len() == 0 || digits[0] == b'0' {
+    if digits.starts_with(b"0") {
         return 0;
     }
-    let mut value: u16 = 0;
-    for digit in digits {
-        value = value
+    digits.iter().fold(0, |value: u16, digit| {
+        value
             .saturating_mul(10)
-            .saturating_add(u16::from(digit.saturating_sub(b'0')));
-    }
-    value
+            .saturating_add(u16::from(digit.saturating_sub(b'0')))
+    })
 }
 
 // A text, and how far it has been told.

@@ -29,8 +29,7 @@ fn first_end(text: &[u8], place: usize) -> usize
 {
     let class = class_of(text[place]);
     match class {
-        Class::Digit => run_end(text, place, class),
-        Class::Letter => run_end(text, place, class),
+        Class::Digit | Class::Letter => run_end(text, place, class),
         _ => place + 1,
     }
 }
@@ -99,14 +98,10 @@ fn lexeme_of(class: Class, place: usize, run: &[u8]) -> Result<Token, TextFault>
 {
     let kind = match class {
         Class::Digit => Kind::Number(value_of(run)),
-        Class::Letter => match word_of(run) {
-            Some(word) => Kind::Word(word),
-            None => return Err(TextFault::Word(place)),
-        },
+        Class::Letter => Kind::Word(word_of(run).ok_or(TextFault::Word(place))?),
         Class::Open => Kind::Open,
         Class::Close => Kind::Close,
-        Class::Blank => return Err(TextFault::Byte(place)),
-        Class::Other => return Err(TextFault::Byte(place)),
+        Class::Blank | Class::Other => return Err(TextFault::Byte(place)),
     };
     Ok(Token { place, kind })
 }

@@ -4,7 +4,7 @@ ghost use Rattle.rules.specs.Classes.{class};
 ghost use Rattle.rules.specs.Scanning.{OneClass, FirstRun};
 ghost use Rattle.rules.specs.Tokens.{value, classed};
 
-use crate::classes::{Class, class_of};
+use crate::classes::Class;
 use crate::faults::TextFault;
 use crate::tokens::{Kind, Token};
 use crate::words::word_of;
@@ -16,7 +16,7 @@ fn run_end(text: &[u8], from: usize, class: Class) -> usize
 {
     let run = text[from..]
         .iter()
-        .take_while(|&&byte| class_of(byte) == class)
+        .take_while(|&&byte| Class::from(byte) == class)
         .count();
     from + run
 }
@@ -27,7 +27,7 @@ fn first_end(text: &[u8], place: usize) -> usize
     requires begun { class (slice_index text.now place) ≢ Class.Blank }
     ensures { FirstRun text.now place result }
 {
-    let class = class_of(text[place]);
+    let class = Class::from(text[place]);
     match class {
         Class::Digit | Class::Letter => run_end(text, place, class),
         _ => place + 1,
@@ -88,7 +88,7 @@ impl Iterator for Scanner<'_> {
         }
         let end = first_end(text, place);
         self.at = end;
-        Some(lexeme_of(class_of(text[place]), place, &text[place..end]))
+        Some(lexeme_of(Class::from(text[place]), place, &text[place..end]))
     }
 }
 

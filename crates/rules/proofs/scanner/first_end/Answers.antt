@@ -11,9 +11,9 @@ joins k is a b rs =
 
 pub returns-in-Digit : goal.returns-in-Digit
 returns-in-Digit c =
-    first_joined c.args.text.now _ (joins _ c.in-Digit.is) _ _ c.requires.within (sym c.class_of-class.ensures) c.run_end.ensures
+    first_joined c.args.text.now _ (joins _ c.in-Digit.is) _ _ c.requires.within (sym c.from-class.ensures) c.run_end.ensures
 
 pub returns-in_default : goal.returns-in_default
 returns-in_default c =
-    first_alone c.args.text.now c.args.place c.class_of-class.result c.requires.within (sym c.class_of-class.ensures) c.in_default.not-Digit c.in_default.not-Letter
-    (λ e. c.requires.begun (sym c.class_of-class.ensures ∙ e))
+    first_alone c.args.text.now c.args.place c.from-class.result c.requires.within (sym c.from-class.ensures) c.in_default.not-Digit c.in_default.not-Letter
+    (λ e. c.requires.begun (sym c.from-class.ensures ∙ e))

@@ -17,6 +17,6 @@ returns c =
     let text = c.args.self.now.text.now in
     let on : ahead text c.args.self.now.at ≡ ahead text c.run_end-place.result = blanks_ahead text _ _ c.run_end-place.ensures in
     let cut : ahead text c.args.self.now.at ≡ c.lexeme_of.result ∷ ahead text c.first_end-end.result =
-    on ∙ c.first_end-end.ensures.cut ∙ ap (λ l. l ∷ ahead text c.first_end-end.result) (sym (c.lexeme_of.ensures ∙ ap (λ k. classed k c.run_end-place.result (between c.run_end-place.result c.first_end-end.result text)) c.class_of.ensures)) in
+    on ∙ c.first_end-end.ensures.cut ∙ ap (λ l. l ∷ ahead text c.first_end-end.result) (sym (c.lexeme_of.ensures ∙ ap (λ k. classed k c.run_end-place.result (between c.run_end-place.result c.first_end-end.result text)) c.from.ensures)) in
     let shorter = ap length cut in
     record { steps = cut; goes = search rules }

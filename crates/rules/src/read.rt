@@ -49,11 +49,10 @@ pub fn read(text: &[u8], n: u8, terms: &mut TermMemory<'_>) -> Result<u32, RuleF
     ensures room { (view terms.new).room ≡ (view terms.old).room }
 {
     terms.clear(); // of what an earlier rule left
-    match read_into(text, n, terms) {
-        Ok(place) => Ok(place),
-        Err(fault) => {
-            terms.clear();
-            Err(fault)
-        }
+    let reading = read_into(text, n, terms);
+    // Not by `inspect_err`: its contract says nothing of what the closure holds where there is no error.
+    if reading.is_err() {
+        terms.clear();
     }
+    reading
 }

@@ -4,27 +4,30 @@ ghost use Rattle.calls.specs.Faults.{number, place, layer};
 ghost use Rattle.calls.specs.declared.faults.Fault.TheVariants.{Rule as Carried};
 
 use rules::faults::{Layer, RuleFault};
+use thiserror::Error;
 
 // The first question before a call that is answered no.
-#[derive(Clone, Copy, PartialEq, Eq)]
+#[derive(Clone, Copy, PartialEq, Eq, Debug, Error)]
 pub enum Fault {
-    // the number of members is not from 1 to 48
+    #[error("the number of members is not from 1 to 48")]
     Members,
-    // a size is not allowed, or too few places are handed over
+    #[error("a size is not allowed, or too few places are handed over")]
     Places,
-    // a shelf number is not below 16
+    #[error("a shelf number is not below 16")]
     Shelf,
-    // a shelf that is read is empty
+    #[error("a shelf that is read is empty")]
     Empty,
-    // the member is not from 1 to n
+    #[error("the member is not from 1 to n")]
     Member,
+    #[error(transparent)]
     Rule(RuleFault),
-    // the nodes in the shelves and those of the workings are more than there are places
+    #[error("the nodes in the shelves and those of the workings are more than there are places")]
     Nodes,
-    // the buffer is too short
+    #[error("the buffer is too short")]
     Buffer,
 }
 
+// By hand, since `from_gives` says which fault a `?` makes, and a derived `From` does not.
 impl From<RuleFault> for Fault {
     ghost from_gives = { λ fault r. r ≡ Carried fault };
 

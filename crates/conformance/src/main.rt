@@ -2,7 +2,6 @@
 //! `rt ci` runs this on a copy of the folder data/ and holds what it prints to the file `stdout`; a line that differs fails the run.
 #![tactic(auto)]
 
-mod hex;
 mod tallies;
 mod vectors;
 mod verdicts;
@@ -16,7 +15,7 @@ use rules::terms::{TermKey, TermMemory};
 use std::alloc::{AllocError, Global};
 use std::fs;
 use tallies::Tally;
-use vectors::Vector;
+use vectors::{LineError, Vector};
 use verdicts::Verdict;
 
 // The members that the press was run with: 1 to so many.
@@ -34,12 +33,13 @@ fn judge(
 ) -> Result<(), AllocError>
     ensures { OnOk result (vec_len tally.old.findings ≤ vec_len tally.new.findings) }
 {
-    match Vector::parse(heap, line)? {
-        Some(vector) => {
-            let ours = Verdict::of(read(vector.rule.as_slice(), MEMBERS, terms));
-            tally.compare(vector.told, ours)
+    match Vector::parse(heap, line) {
+        Ok(Vector { rule, told }) => {
+            let ours = Verdict::of(read(rule.as_slice(), MEMBERS, terms));
+            tally.compare(told, ours)
         }
-        None => tally.malformed(),
+        Err(LineError::Malformed) => tally.malformed(),
+        Err(LineError::Memory(error)) => Err(error),
     }
 }
 

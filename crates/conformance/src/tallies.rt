@@ -1,7 +1,7 @@
 //! How many lines agree, by what is said of their rules, and what is wrong with the others.
 ghost use Rattle.std.specs.Prelude.{◌≡◌, ◌+◌, ◌<◌, vec_len, Decides, OnOk, ◌≢◌};
 
-use crate::verdicts::Verdict;
+use crate::verdicts::{Denial, Verdict};
 use std::alloc::{AllocError, Global};
 use std::collections::BTreeMap;
 use std::{fmt, io};
@@ -80,9 +80,9 @@ impl Tally {
             return self.find(Trouble::Differs { told, ours });
         }
         self.agreed = self.agreed.saturating_add(1);
-        match told {
-            Verdict::LetIn => self.let_in = self.let_in.saturating_add(1),
-            Verdict::Denied { number, .. } => {
+        match told.0 {
+            Ok(()) => self.let_in = self.let_in.saturating_add(1),
+            Err(Denial { number, .. }) => {
                 let count = self.denied.entry(number)?.or_insert(0);
                 *count = count.saturating_add(1);
             }

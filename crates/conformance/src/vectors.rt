@@ -1,7 +1,29 @@
 //! The lines of the press.
-use crate::hex::spelt;
+ghost use Rattle.std.specs.Prelude.{◌≡◌, IfOk, Ok};
+ghost use Rattle.hex.specs.Hex.{decode_of};
+
 use crate::verdicts::Verdict;
+use hex::{FromHexError, decode};
 use std::alloc::{AllocError, Global};
+use thiserror::Error;
+
+// Why a line gives no vector.
+#[derive(Debug, Drop, Error)]
+pub enum LineError {
+    #[error("malformed")]
+    Malformed,
+    #[error(transparent)]
+    Memory(AllocError),
+}
+
+impl From<FromHexError> for LineError {
+    fn from(error: FromHexError) -> LineError {
+        match error {
+            FromHexError::OutOfMemory => LineError::Memory(AllocError),
+            _ => LineError::Malformed,
+        }
+    }
+}
 
 // A rule, and what the press says of it.
 #[derive(Drop)]
@@ -10,30 +32,31 @@ pub struct Vector {
     pub told: Verdict,
 }
 
+// The bytes that a text spells in hex; there is at least one.
+fn spelt(heap: Global, text: &str) -> Result<Vec<u8>, LineError>
+    ensures { IfOk result (λ bytes. decode_of text.now ≡ Ok bytes.items) }
+{
+    if text.is_empty() {
+        return Err(LineError::Malformed);
+    }
+    Ok(decode(heap, text)?)
+}
+
 // A rule's bytes; `-` stands for none.
-fn rule_of(heap: Global, text: &str) -> Result<Option<Vec<u8>>, AllocError> {
+fn rule_of(heap: Global, text: &str) -> Result<Vec<u8>, LineError> {
     if text == "-" {
-        Ok(Some(Vec::new(heap)))
+        Ok(Vec::new(heap))
     } else {
         spelt(heap, text)
     }
 }
 
 impl Vector {
-    // Nothing where the line is malformed.
-    pub(crate) fn parse(heap: Global, line: &str) -> Result<Option<Vector>, AllocError> {
-        let Some((rule, written)) = line.split_once(' ') else {
-            return Ok(None);
-        };
-        let Some(rule) = rule_of(heap, rule)? else {
-            return Ok(None);
-        };
-        let Some(written) = spelt(heap, written)? else {
-            return Ok(None);
-        };
-        match Verdict::told(written.as_slice()) {
-            Some(told) => Ok(Some(Vector { rule, told })),
-            None => Ok(None),
-        }
+    pub(crate) fn parse(heap: Global, line: &str) -> Result<Vector, LineError> {
+        let (rule, written) = line.split_once(' ').ok_or(LineError::Malformed)?;
+        let rule = rule_of(heap, rule)?;
+        let written = spelt(heap, written)?;
+        let told = Verdict::told(written.as_slice()).ok_or(LineError::Malformed)?;
+        Ok(Vector { rule, told })
     }
 }

@@ -1,36 +1,56 @@
 //! What is said of a rule, by the reading or by the press.
-ghost use Rattle.std.specs.Prelude.{◌≡◌, MatchResult};
+ghost use Rattle.std.specs.Prelude.{◌≡◌, Ok, Err, MatchResult};
 ghost use Rattle.rules.specs.Faults.{number as number_of, place as place_of};
 
 use rules::faults::RuleFault;
 use std::fmt;
 use std::str::from_utf8;
 
+// Why a rule is denied: the number of the question that was answered no, and the byte offset of the fault, where it has one.
 #[derive(Clone, Copy, PartialEq, Eq)]
-pub enum Verdict {
-    LetIn,
-    Denied { number: u8, place: Option<usize> },
+pub struct Denial {
+    pub number: u8,
+    pub place: Option<usize>,
 }
+
+impl From<RuleFault> for Denial {
+    ghost from_gives = { λ fault d. d ≡ record { number = number_of fault; place = place_of fault } };
+
+    fn from(fault: RuleFault) -> Denial {
+        Denial {
+            number: fault.number(),
+            place: fault.place(),
+        }
+    }
+}
+
+impl fmt::Display for Denial {
+    fn fmt<W: fmt::Write>(&self, f: &mut fmt::Formatter<W>) -> fmt::Result {
+        let number = self.number;
+        match self.place {
+            Some(place) => write!(f, "denied {number} at {place}"),
+            None => write!(f, "denied {number}"),
+        }
+    }
+}
+
+// Let in, or denied.
+#[derive(Clone, Copy, PartialEq, Eq)]
+pub struct Verdict(pub Result<(), Denial>);
 
 impl Verdict {
     // What the reading says.
     pub(crate) fn of(reading: Result<u32, RuleFault>) -> Verdict
-        ensures { MatchResult reading (λ _. result ≡ Verdict.LetIn) (λ fault. result ≡ Verdict.Denied (number_of fault) (place_of fault)) }
+        ensures { MatchResult reading (λ _. result.0 ≡ Ok tt) (λ fault. result.0 ≡ Err (record { number = number_of fault; place = place_of fault })) }
     {
-        match reading {
-            Ok(_) => Verdict::LetIn,
-            Err(fault) => Verdict::Denied {
-                number: fault.number(),
-                place: fault.place(),
-            },
-        }
+        Verdict(reading.map(|_| ()).map_err(Denial::from))
     }
 
     // What the press says of the rule by what it wrote: a sheet, `no N` or `no N at A`.
     pub(crate) fn told(written: &[u8]) -> Option<Verdict> {
         match written.strip_prefix(b"no ") {
             Some(line) => Verdict::denial(from_utf8(line).ok()?),
-            None => Some(Verdict::LetIn),
+            None => Some(Verdict(Ok(()))),
         }
     }
 
@@ -42,8 +62,8 @@ impl Verdict {
             None => (line, None),
         };
         match number.parse::<u8>().ok()? {
-            number @ 6..=13 => Some(Verdict::Denied { number, place }),
-            14 | 15 => Some(Verdict::LetIn),
+            number @ 6..=13 => Some(Verdict(Err(Denial { number, place }))),
+            14 | 15 => Some(Verdict(Ok(()))),
             _ => None,
         }
     }
@@ -51,15 +71,9 @@ impl Verdict {
 
 impl fmt::Display for Verdict {
     fn fmt<W: fmt::Write>(&self, f: &mut fmt::Formatter<W>) -> fmt::Result {
-        match *self {
-            Verdict::LetIn => write!(f, "let in"),
-            Verdict::Denied { number, place } => {
-                write!(f, "denied {number}")?;
-                match place {
-                    Some(place) => write!(f, " at {place}"),
-                    None => Ok(()),
-                }
-            }
+        match self.0 {
+            Ok(()) => write!(f, "let in"),
+            Err(denial) => write!(f, "{denial}"),
         }
     }
 }

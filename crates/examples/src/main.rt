@@ -59,10 +59,10 @@ fn limits(rt: &HostRuntime) -> io::Result<()> {
     show(rt, listed(heap, "any", 64)?.as_str(), USUAL)?;
     show(rt, listed(heap, "any", 65)?.as_str(), USUAL)?;
     rt.println("4,096 bytes, and 4,097")?;
-    show(rt, extended(heap, "all(1 2)", ' ', 4096)?.as_str(), USUAL)?;
-    show(rt, extended(heap, "all(1 2)", ' ', 4097)?.as_str(), USUAL)?;
+    show(rt, extended(heap, "all(1 2)", " ", 4096)?.as_str(), USUAL)?;
+    show(rt, extended(heap, "all(1 2)", " ", 4097)?.as_str(), USUAL)?;
     rt.println("A number of 3,000 digits")?;
-    let mut number = extended(heap, "all(2 ", '7', 3006)?;
+    let mut number = extended(heap, "all(2 ", "7", 3006)?;
     number.push(')')?;
     show(rt, number.as_str(), USUAL)
 }

@@ -7,15 +7,9 @@ use std::alloc::{AllocError, Global};
 pub(crate) fn nested(heap: Global, depth: usize) -> Result<String, AllocError>
     ensures { IfOk result (λ s. string_len s ≡ 5 * depth + 1) }
 {
-    let mut text = String::new(heap);
-    for _ in 0..depth {
-        text.push_str("all(")?;
-    }
-    text.push('1')?;
-    for _ in 0..depth {
-        text.push(')')?;
-    }
-    Ok(text)
+    let opening = "all(".repeat(heap, depth)?;
+    let closing = ")".repeat(heap, depth)?;
+    format!(in heap; "{opening}1{closing}")
 }
 
 // A word over a list of so many members: 1 to 48, and then from 1 again.
@@ -23,26 +17,22 @@ pub(crate) fn listed(heap: Global, word: &str, items: u8) -> Result<String, Allo
     let mut text = format!(in heap; "{word}(1")?;
     for item in 1..items {
         let member = item % 48 + 1;
-        let spelt = format!(in heap; " {member}")?;
-        text.push_str(spelt.as_str())?;
+        write!(text, " {member}")?;
     }
     text.push(')')?;
     Ok(text)
 }
 
-// The text, with one mark after it up to a length.
+// The text, and after it one mark again and again up to a length.
 pub(crate) fn extended(
     heap: Global,
     text: &str,
-    mark: char,
+    mark: &str,
     len: usize,
 ) -> Result<String, AllocError>
-    requires { mark < 128 }
+    requires { length mark.now ≡ 1 }
     ensures { IfOk result (λ s. string_len s ≡ max (length text.now) len) }
 {
-    let mut extended = String::from_str(heap, text)?;
-    for _ in text.len()..len {
-        extended.push(mark)?;
-    }
-    Ok(extended)
+    let marks = mark.repeat(heap, len.saturating_sub(text.len()))?;
+    format!(in heap; "{text}{marks}")
 }

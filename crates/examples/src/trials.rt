@@ -33,10 +33,8 @@ impl fmt::Display for Setting {
 fn outcome(heap: Global, text: &str, setting: Setting) -> Result<Outcome, AllocError> {
     let mut slots = vec![in heap; Slot::blank(TermKey::Member(0)); setting.places]?;
     let mut terms = TermMemory::open(&mut slots);
-    match read(text.as_bytes(), setting.n, &mut terms) {
-        Ok(_) => Ok(Outcome::LetIn(terms.len())),
-        Err(fault) => Ok(Outcome::Denied(fault)),
-    }
+    let reading = read(text.as_bytes(), setting.n, &mut terms);
+    Ok(Outcome(reading.map(|_| terms.len())))
 }
 
 // A text in quotes; of a long one the start, and its length.

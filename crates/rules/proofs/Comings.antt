@@ -10,7 +10,7 @@ use Rattle.rules.specs.Memory.{view}
 use Rattle.rules.specs.Outcome.{placed, outcome, Comes, Off, ReadOff}
 use Rattle.rules.specs.Reading.{reading, run, start}
 use Rattle.rules.specs.Rules.{Rule}
-use Rattle.rules.specs.Terms.{Term, expand, subterms}
+use Rattle.rules.specs.Terms.{expand, subterms}
 use Rattle.rules.specs.Tokens.{lexemes}
 use Rattle.interning.proofs.Members.{apart_once, stands_in}
 use Rattle.rules.proofs.Memories.{memory_apart, memory_fits, memory_closed}
@@ -56,8 +56,3 @@ module _ (m : TermMemory) (n : ℕ) (text : List ℕ) (p : ℕ) (l : length text
   -- every term found a place
   pub comes_held : (view m).over ≡ false → Comes (view m) (Ok p) (outcome n (view m).room text)
   comes_held off' = subst (λ x. Comes (view m) (Ok p) (placed (view m).room x)) (sym (short_reading n text l)) (held_from _ off off')
-
--- the fault is what was told, whatever the memory holds
-pub comes_same : (h h' : Held) (f : RuleFault) (out : Result Term RuleFault) → Comes h (Err f) out → Comes h' (Err f) out
-comes_same h h' f (Err g) e = e
-comes_same h h' f (Ok t) e = e

@@ -1,5 +1,5 @@
 -- The number, the place and the layer of a fault.
-use Rattle.std.specs.Prelude.{ℕ, Some, None, Option}
+use Rattle.std.specs.Prelude.{ℕ, List, Some, None, codes, Option}
 use Rattle.rules.specs.declared.faults.Layer.{Layer}
 use Rattle.rules.specs.declared.faults.RuleFault.{RuleFault}
 use Rattle.rules.specs.declared.faults.RuleFault.TheVariants.{Length, Text, Token, Depth, Range, Shape, Terms}
@@ -36,3 +36,8 @@ layer (Depth at) = Some Layer.Rule
 layer (Range at) = Some Layer.Rule
 layer (Shape at) = Some Layer.Rule
 layer Terms = None
+
+-- a layer as it is printed
+abbrev pub layer_name : Layer → List ℕ
+layer_name Layer.Text = codes "text"
+layer_name Layer.Rule = codes "rule"

@@ -4,6 +4,7 @@ pub mod Words
 pub mod Runs
 pub mod Tokens
 pub mod Scanning
+pub mod Scanners
 pub mod Rules
 pub mod TermKeys
 pub mod Levels

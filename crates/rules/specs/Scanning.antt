@@ -1,5 +1,5 @@
 -- What a scanner has still to tell.
-use Rattle.std.specs.Prelude.{◌≡◌, ℕ, ◌<◌, ◌≤◌, List, [], ◌∷◌, length, drop, Some, None, Option, ◌≢◌, slice_index}
+use Rattle.std.specs.Prelude.{◌≡◌, ℕ, ◌<◌, ◌≤◌, List, ◌∷◌, length, drop, ◌≢◌, slice_index}
 use Rattle.std.specs.List.{between}
 use Rattle.rules.specs.declared.classes.Class.{Class}
 use Rattle.rules.specs.Classes.{class}
@@ -11,14 +11,6 @@ pub record OneClass (text : List ℕ) (k : Class) (from to : ℕ) : Type 0 where
   pub within : to ≤ length text
   pub all : (i : ℕ) → from ≤ i → i < to → class (slice_index text i) ≡ k
   pub stops : to < length text → class (slice_index text to) ≢ k
-
-abbrev pub first : {A : Type 0} → List A → Option A
-first [] = None
-first (x ∷ xs) = Some x
-
-abbrev pub rest : {A : Type 0} → List A → List A
-rest [] = []
-rest (x ∷ xs) = xs
 
 -- the tokens and faults from a place on
 abbrev pub ahead : List ℕ → ℕ → List Lexeme

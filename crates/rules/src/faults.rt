@@ -1,32 +1,36 @@
 //! Why a rule's text is denied. The rule's fault carries the text's fault whole; number, place and layer are definitions over both.
-ghost use Rattle.std.specs.Prelude.{◌≡◌};
-ghost use Rattle.rules.specs.Faults.{number, place, layer};
+ghost use Rattle.std.specs.Prelude.{◌≡◌, Some};
+ghost use Rattle.rules.specs.Faults.{number, place, layer, layer_name};
 ghost use Rattle.rules.specs.declared.faults.RuleFault.TheVariants.{Text as CarriedText};
 
+use std::fmt;
+use thiserror::Error;
+
 // A fault of the text alone, at a byte offset.
-#[derive(Clone, Copy, PartialEq, Eq, Debug)]
+#[derive(Clone, Copy, PartialEq, Eq, Debug, Error)]
 pub enum TextFault {
-    // a byte of no class
+    #[error("a byte of no class")]
     Byte(usize),
-    // a word that no rule has
+    #[error("a word that no rule has")]
     Word(usize),
 }
 
 // Why a text is not let in as a rule.
-#[derive(Clone, Copy, PartialEq, Eq, Debug)]
+#[derive(Clone, Copy, PartialEq, Eq, Debug, Error)]
 pub enum RuleFault {
-    // more than 4,096 bytes
+    #[error("the text has more than 4,096 bytes")]
     Length,
+    #[error(transparent)]
     Text(TextFault),
-    // a token that cannot stand there, or a text that ends too early
+    #[error("a token that cannot stand there, or a rule that is not finished")]
     Token(usize),
-    // a seventeenth open bracket
+    #[error("a seventeenth open bracket")]
     Depth(usize),
-    // a number out of its range
+    #[error("a number out of its range")]
     Range(usize),
-    // a list whose items do not fit its word
+    #[error("a list that does not fit its word")]
     Shape(usize),
-    // more different terms than there are places
+    #[error("more different terms than there are places")]
     Terms,
 }
 
@@ -37,6 +41,18 @@ pub enum Layer {
     Rule,
 }
 
+impl fmt::Display for Layer {
+    ghost output = { λ found. Some (layer_name found) };
+
+    fn fmt<W: fmt::Write>(&self, f: &mut fmt::Formatter<W>) -> fmt::Result {
+        f.write_str(match self {
+            Layer::Text => "text",
+            Layer::Rule => "rule",
+        })
+    }
+}
+
+// By hand, since `from_gives` says which fault a `?` makes, and a derived `From` does not.
 impl From<TextFault> for RuleFault {
     ghost from_gives = { λ fault r. r ≡ CarriedText fault };
 
@@ -73,8 +89,7 @@ impl RuleFault {
             RuleFault::Depth(at) => Some(at),
             RuleFault::Range(at) => Some(at),
             RuleFault::Shape(at) => Some(at),
-            RuleFault::Length => None,
-            RuleFault::Terms => None,
+            RuleFault::Length | RuleFault::Terms => None,
         }
     }
 
@@ -88,8 +103,7 @@ impl RuleFault {
             RuleFault::Depth(_) => Some(Layer::Rule),
             RuleFault::Range(_) => Some(Layer::Rule),
             RuleFault::Shape(_) => Some(Layer::Rule),
-            RuleFault::Length => None,
-            RuleFault::Terms => None,
+            RuleFault::Length | RuleFault::Terms => None,
         }
     }
 }

@@ -18,10 +18,9 @@ fn read_tokens(text: &[u8], n: u8, terms: &mut TermMemory<'_>) -> Result<u32, Ru
     ensures reads { ReadOff n text.now (view terms.new) result }
     ensures room { (view terms.new).room ≡ (view terms.old).room }
 {
-    let mut scanner = Scanner::new(text);
     let mut nest = Nest::new();
     let mut wants = Wants::Item;
-    while let Some(lexeme) = scanner.next() {
+    for lexeme in Scanner::new(text) {
         wants = take(&mut nest, terms, n, wants, lexeme?)?;
     }
     finish(wants, text.len())
@@ -50,11 +49,10 @@ pub fn read(text: &[u8], n: u8, terms: &mut TermMemory<'_>) -> Result<u32, RuleF
     ensures room { (view terms.new).room ≡ (view terms.old).room }
 {
     terms.clear(); // of what an earlier rule left
-    match read_into(text, n, terms) {
-        Ok(place) => Ok(place),
-        Err(fault) => {
-            terms.clear();
-            Err(fault)
-        }
+    let reading = read_into(text, n, terms);
+    // Not by `inspect_err`: its contract says nothing of what the closure holds where there is no error.
+    if reading.is_err() {
+        terms.clear();
     }
+    reading
 }

@@ -1,10 +1,10 @@
 //! The scanner: a text, token by token. Each call finds the end of one longest run, and the runs of what is left stay as they were.
 ghost use Rattle.std.specs.Prelude.{◌≡◌, ℕ, ◌+◌, ◌-◌, ◌<◌, ◌≤◌, min, true, length, is_some, ◌≢◌, slice_index};
 ghost use Rattle.rules.specs.Classes.{class};
-ghost use Rattle.rules.specs.Scanning.{OneClass, FirstRun, first, rest, ahead};
+ghost use Rattle.rules.specs.Scanning.{OneClass, FirstRun};
 ghost use Rattle.rules.specs.Tokens.{value, classed};
 
-use crate::classes::{Class, class_of};
+use crate::classes::Class;
 use crate::faults::TextFault;
 use crate::tokens::{Kind, Token};
 use crate::words::word_of;
@@ -14,11 +14,11 @@ fn run_end(text: &[u8], from: usize, class: Class) -> usize
     requires { from ≤ length text.now }
     ensures { OneClass text.now class from result }
 {
-    let mut end = from;
-    while end < text.len() && class_of(text[end]) == class {
-        end += 1;
-    }
-    end
+    let run = text[from..]
+        .iter()
+        .take_while(|&&byte| Class::from(byte) == class)
+        .count();
+    from + run
 }
 
 // The end of the run that begins at a place.
@@ -27,10 +27,9 @@ fn first_end(text: &[u8], place: usize) -> usize
     requires begun { class (slice_index text.now place) ≢ Class.Blank }
     ensures { FirstRun text.now place result }
 {
-    let class = class_of(text[place]);
+    let class = Class::from(text[place]);
     match class {
-        Class::Digit => run_end(text, place, class),
-        Class::Letter => run_end(text, place, class),
+        Class::Digit | Class::Letter => run_end(text, place, class),
         _ => place + 1,
     }
 }
@@ -39,16 +38,14 @@ fn first_end(text: &[u8], place: usize) -> usize
 fn value_of(digits: &[u8]) -> u16
     ensures { result ≡ value digits.now }
 {
-    if digits.len() == 0 || digits[0] == b'0' {
+    if digits.starts_with(b"0") {
         return 0;
     }
-    let mut value: u16 = 0;
-    for digit in digits {
-        value = value
+    digits.iter().fold(0, |value: u16, digit| {
+        value
             .saturating_mul(10)
-            .saturating_add(u16::from(digit.saturating_sub(b'0')));
-    }
-    value
+            .saturating_add(u16::from(digit.saturating_sub(b'0')))
+    })
 }
 
 // A text, and how far it has been told.
@@ -60,21 +57,29 @@ pub struct Scanner<'a> {
 }
 
 impl<'a> Scanner<'a> {
+    ghost use Rattle.rules.specs.Scanners.{left};
+    ghost use Rattle.rules.specs.Tokens.{lexemes};
+
     // A scanner at the first byte of a text.
     pub(crate) fn new(text: &'a [u8]) -> Scanner<'a>
-        ensures text { result.text.now ≡ text.now }
-        ensures at { result.at ≡ 0 }
+        ensures { left result ≡ lexemes 0 text.now }
     {
         Scanner { text, at: 0 }
     }
+}
 
-    // The next token, or a fault of the text; none at its end.
-    pub(crate) fn next(&mut self) -> Option<Result<Token, TextFault>>
-        ensures text { self.new.text.now ≡ self.old.text.now }
-        ensures value { result ≡ first (ahead self.old.text.now self.old.at) }
-        ensures after { ahead self.old.text.now self.new.at ≡ rest (ahead self.old.text.now self.old.at) }
-        ensures onward { is_some result ≡ true → self.old.at < self.new.at }
-    {
+// Tells the tokens of the text in their order, and its faults.
+impl Iterator for Scanner<'_> {
+    ghost use Rattle.std.specs.Iterator.{YieldsFirst, item_count};
+    ghost use Rattle.rules.specs.Scanners.{left};
+
+    type Item = Result<Token, TextFault>;
+
+    ghost next_gives = { YieldsFirst left };
+
+    ghost remaining = { item_count left };
+
+    fn next(&mut self) -> Option<Result<Token, TextFault>> {
         let text = self.text;
         let place = run_end(text, self.at, Class::Blank);
         self.at = place;
@@ -83,7 +88,7 @@ impl<'a> Scanner<'a> {
         }
         let end = first_end(text, place);
         self.at = end;
-        Some(lexeme_of(class_of(text[place]), place, &text[place..end]))
+        Some(lexeme_of(Class::from(text[place]), place, &text[place..end]))
     }
 }
 
@@ -93,14 +98,10 @@ fn lexeme_of(class: Class, place: usize, run: &[u8]) -> Result<Token, TextFault>
 {
     let kind = match class {
         Class::Digit => Kind::Number(value_of(run)),
-        Class::Letter => match word_of(run) {
-            Some(word) => Kind::Word(word),
-            None => return Err(TextFault::Word(place)),
-        },
+        Class::Letter => Kind::Word(word_of(run).ok_or(TextFault::Word(place))?),
         Class::Open => Kind::Open,
         Class::Close => Kind::Close,
-        Class::Blank => return Err(TextFault::Byte(place)),
-        Class::Other => return Err(TextFault::Byte(place)),
+        Class::Blank | Class::Other => return Err(TextFault::Byte(place)),
     };
     Ok(Token { place, kind })
 }

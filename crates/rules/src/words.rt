@@ -1,6 +1,5 @@
 //! The words of a rule.
 ghost use Rattle.std.specs.Prelude.{◌≡◌};
-ghost use Rattle.std.specs.Str.{bytes_eq};
 ghost use Rattle.rules.specs.Words.{word};
 
 // A word that begins a list.
@@ -21,26 +20,15 @@ pub enum Head {
     Grid(u8),
 }
 
-// Whether two runs of bytes are the same.
-fn same(letters: &[u8], word: &[u8]) -> bool
-    ensures { result ≡ bytes_eq letters.now word.now }
-{
-    letters == word
-}
-
 // The word that the letters spell.
 pub(crate) fn word_of(letters: &[u8]) -> Option<Word>
     ensures { result ≡ word letters.now }
 {
-    if same(letters, b"all") {
-        Some(Word::All)
-    } else if same(letters, b"any") {
-        Some(Word::Any)
-    } else if same(letters, b"least") {
-        Some(Word::Least)
-    } else if same(letters, b"grid") {
-        Some(Word::Grid)
-    } else {
-        None
+    match letters {
+        b"all" => Some(Word::All),
+        b"any" => Some(Word::Any),
+        b"least" => Some(Word::Least),
+        b"grid" => Some(Word::Grid),
+        _ => None,
     }
 }

@@ -1,6 +1,6 @@
 -- Each way of a step of the reader is the way of the reading's step.
 use Rattle.std.proofs.Common.{◌≡◌, ℕ, ◌<◌, ◌≤◌, Bool, true, false, cond, eqb, leb, List, [], ◌∷◌, length, Some, None, Ok, Err, Result, sym, refl, ap, ◌∙◌, subst, arith}
-use Rattle.std.proofs.lemmas.Bool.{cond-true, cond-false, eq-eqb, ne_eqb, le-leb, lt-leb}
+use Rattle.std.proofs.lemmas.Bool.{cond-true, cond-false, eq-eqb, le-leb, lt-leb}
 use Rattle.rules.specs.declared.faults.RuleFault.{RuleFault}
 use Rattle.rules.specs.declared.faults.RuleFault.TheVariants.{Token as Unfit, Depth, Shape}
 use Rattle.rules.specs.declared.reader.Wants.{Wants}
@@ -55,18 +55,18 @@ module _ (n : ℕ) (h : Held) (l : Level) (ls : List Level) where
   closed_empty p (f ∷ fs) at none =
       steps_err n h (Unfit p) ls _ (cond-true (eqb (length f.items) 0) _ _ (eq-eqb (length f.items) 0 (sym (level_length h l f at.stand.0) ∙ none)))
 
-  some_items : (f : Frame) (fs : List Frame) → AtItem n h (l ∷ ls) (f ∷ fs) → (length l.places ≡ 0 → ⊥) → eqb (length f.items) 0 ≡ false
-  some_items f fs at some = ne_eqb (length f.items) 0 (λ e. some (level_length h l f at.stand.0 ∙ e))
+  some_items : (f : Frame) (fs : List Frame) → AtItem n h (l ∷ ls) (f ∷ fs) → eqb (length l.places) 0 ≡ false → eqb (length f.items) 0 ≡ false
+  some_items f fs at some = ap (λ m. eqb m 0) (sym (level_length h l f at.stand.0)) ∙ some
 
   fit_same : (f : Frame) (fs : List Frame) → AtItem n h (l ∷ ls) (f ∷ fs) → fits f.head (length f.items) ≡ fits l.head (length l.places)
   fit_same f fs at = λ i. fits (sym at.stand.0.head i) (sym (level_length h l f at.stand.0) i)
 
-  pub closed_unfit : (p : ℕ) (fs : List Frame) → AtItem n h (l ∷ ls) fs → (length l.places ≡ 0 → ⊥) → fits l.head (length l.places) ≡ false → Steps n h (Err (Shape p)) ls (close p fs)
+  pub closed_unfit : (p : ℕ) (fs : List Frame) → AtItem n h (l ∷ ls) fs → eqb (length l.places) 0 ≡ false → fits l.head (length l.places) ≡ false → Steps n h (Err (Shape p)) ls (close p fs)
   closed_unfit p [] at some unfit = absurd at.stand
   closed_unfit p (f ∷ fs) at some unfit =
       steps_err n h (Shape p) ls _ (cond-false (eqb (length f.items) 0) _ _ (some_items f fs at some) ∙ cond-false (fits f.head (length f.items)) _ _ (fit_same f fs at ∙ unfit))
 
-  pub closed_whole : (h' : Held) (p : ℕ) (fs : List Frame) (i : ℕ) (w : Wants) (ms : List Level) → AtItem n h (l ∷ ls) fs → (length l.places ≡ 0 → ⊥) → fits l.head (length l.places) ≡ true → ((es : List Term) → AllAt h l.places es → Makes h h' i (expand_list l.head es)) → Joined i ls w ms → Steps n h' (Ok w) ms (close p fs)
+  pub closed_whole : (h' : Held) (p : ℕ) (fs : List Frame) (i : ℕ) (w : Wants) (ms : List Level) → AtItem n h (l ∷ ls) fs → eqb (length l.places) 0 ≡ false → fits l.head (length l.places) ≡ true → ((es : List Term) → AllAt h l.places es → Makes h h' i (expand_list l.head es)) → Joined i ls w ms → Steps n h' (Ok w) ms (close p fs)
   closed_whole h' p [] i w ms at some fit makes j = absurd at.stand
   closed_whole h' p (f ∷ fs) i w ms at some fit makes j =
       let some' = some_items f fs at some in

@@ -1,0 +1,10 @@
+use Rattle.std.proofs.Common.{sym}
+use Rattle.rules.proofs.Steps.{number_crowded, number_joined}
+use Rattle.rules.proofs.reader.Reader.at_number.Goals as goal
+
+pub returns-then-is_crowded-clause-steps : goal.returns-then-is_crowded-clause-steps
+returns-then-is_crowded-clause-steps c fs at = number_crowded _ _ _ fs at c.args.place c.in-Some.member c.args.value c.in-Some.ensures (sym c.if-is_crowded.ensures)
+
+pub returns-clause-steps : goal.returns-clause-steps
+returns-clause-steps c fs at =
+    number_joined _ _ _ fs at c.args.place c.in-Some.member c.args.value c.in-Some.ensures _ c.member-item.result c.join.result _ (sym c.if-is_crowded.ensures) c.member-item.ensures.made c.join.ensures

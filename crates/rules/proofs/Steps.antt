@@ -1,5 +1,5 @@
 -- Each way of a step of the reader is the way of the reading's step.
-use Rattle.std.proofs.Common.{◌≡◌, ℕ, ◌<◌, ◌≤◌, Bool, true, false, cond, eqb, leb, List, [], ◌∷◌, length, Some, None, Ok, Err, Result, sym, refl, ap, ◌∙◌, subst, arith}
+use Rattle.std.proofs.Common.{◌≡◌, ℕ, ◌<◌, ◌≤◌, Bool, true, false, cond, eqb, leb, List, [], ◌∷◌, map, length, Some, None, Ok, Err, Result, sym, refl, ap, ◌∙◌, subst, arith}
 use Rattle.std.proofs.lemmas.Bool.{cond-true, cond-false, eq-eqb, le-leb, lt-leb}
 use Rattle.rules.specs.declared.faults.RuleFault.{RuleFault}
 use Rattle.rules.specs.declared.faults.RuleFault.TheVariants.{Token as Unfit, Depth, Shape}
@@ -15,7 +15,7 @@ use Rattle.rules.specs.Levels.{Level, crowded as crowded_levels}
 use Rattle.rules.specs.Reading.{Frame, State, wants_bracket, crowded, after_word, close, at_item, at_bracket, in_range, fits}
 use Rattle.rules.specs.Rules.{Rule}
 use Rattle.rules.specs.Spelling.{Figure}
-use Rattle.rules.specs.Terms.{Term, expand_list, member, subterms}
+use Rattle.rules.specs.Terms.{Term, expand, expand_list, member, subterms}
 use Rattle.interning.proofs.Members.{in_right}
 use Rattle.rules.proofs.Followed.{levels_length, level_length, crowded_same, follows_open, follows_made, follows_closed}
 
@@ -73,6 +73,11 @@ module _ (n : ℕ) (h : Held) (l : Level) (ls : List Level) where
       let fit' = fit_same f fs at ∙ fit in
       steps_ok n h' w ms _ _ (cond-false (eqb (length f.items) 0) _ _ some' ∙ cond-true (fits f.head (length f.items)) _ _ fit')
       (follows_closed n h l ls f fs at h' i w ms some' fit' makes j)
+
+  -- what was made of the list's items was made in as many places
+  pub same_room : (h' : Held) (fs : List Frame) (i : ℕ) → AtItem n h (l ∷ ls) fs → ((es : List Term) → AllAt h l.places es → Makes h h' i (expand_list l.head es)) → h'.room ≡ h.room
+  same_room h' [] i at makes = absurd at.stand
+  same_room h' (f ∷ fs) i at makes = (makes (map expand f.items) at.stand.0.items).adds.room
 
 -- a number that was found in its range
 pub ranged : (b : Bool) (m v : ℕ) → Some m ≡ cond b (Some v) None → (b ≡ true) × (m ≡ v)

@@ -2,7 +2,9 @@
 use Rattle.std.specs.Prelude.{◌≡◌, ℕ, ◌<◌, Bool, true, false, List, [], ◌∷◌, length}
 use Rattle.interning.specs.Distinct.{distinct}
 use Rattle.interning.specs.Places.{Stands}
-use Rattle.rules.specs.Terms.{Term, subterms, same}
+use Rattle.rules.specs.declared.terms.TermKey.{TermKey}
+use Rattle.rules.specs.declared.terms.TermKey.TheVariants.{Member, Both, Either}
+use Rattle.rules.specs.Terms.{Term, member, both, either, subterms, same}
 use Rattle.rules.specs.Members.{◌⊆◌}
 
 -- how many different terms a list has
@@ -25,6 +27,18 @@ AllAt h [] [] = Unit {0}
 AllAt h [] (t ∷ ts) = ⊥
 AllAt h (p ∷ ps) [] = ⊥
 AllAt h (p ∷ ps) (t ∷ ts) = At h p t × AllAt h ps ts
+
+-- a key stands for a term: the parts of the term stand at the places that the key names
+abbrev pub KeyOf : Held → TermKey → Term → Type 0
+KeyOf h (Member v) (member w) = v ≡ w
+KeyOf h (Member v) (both s t) = ⊥
+KeyOf h (Member v) (either s t) = ⊥
+KeyOf h (Both a b) (member w) = ⊥
+KeyOf h (Both a b) (both s t) = At h a s × At h b t
+KeyOf h (Both a b) (either s t) = ⊥
+KeyOf h (Either a b) (member w) = ⊥
+KeyOf h (Either a b) (both s t) = ⊥
+KeyOf h (Either a b) (either s t) = At h a s × At h b t
 
 -- no term is held but those of ts, and where one has found no place these are too many
 pub record Within (h : Held) (ts : List Term) : Type 0 where

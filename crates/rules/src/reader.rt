@@ -13,7 +13,7 @@ ghost use Rattle.rules.specs.Spelling.{Figure};
 
 use crate::faults::RuleFault;
 use crate::nest::{Nest, OpenList};
-use crate::terms::TermMemory;
+use crate::terms::{TermKey, TermMemory};
 use crate::tokens::{Kind, Token};
 use crate::words::{Head, Word};
 
@@ -157,7 +157,7 @@ impl<'m, 'a> Reader<'m, 'a> {
         if !list.head.fits(list.items.len()) {
             return Err(RuleFault::Shape(place));
         }
-        let item = self.terms.expand(list.head, list.items.as_slice());
+        let item = self.terms.expand(list.head, &list.items);
         Ok(join(&mut self.nest, item))
     }
 
@@ -173,7 +173,7 @@ impl<'m, 'a> Reader<'m, 'a> {
         if is_crowded(&self.nest) {
             return Err(RuleFault::Shape(place));
         }
-        let item = self.terms.member(member);
+        let item = self.terms.put(TermKey::Member(member));
         Ok(join(&mut self.nest, item))
     }
 

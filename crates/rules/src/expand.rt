@@ -47,11 +47,10 @@ impl<'a> TermMemory<'a> {
         ensures { (es : List Term) → AllAt (view self.old) items.now es → Makes (view self.old) (view self.new) result (least_of k es) }
     {
         let mut row = [0u32; 65];
-        let m = items.len();
-        for i in (0..m).rev() {
-            let left = m - i;
+        for (i, item) in items.iter().enumerate().rev() {
+            let left = items.len() - i;
             let fewest = k.saturating_sub(i).max(1);
-            self.cells(items[i], left, fewest, k.min(left), &mut row);
+            self.cells(*item, left, fewest, k.min(left), &mut row);
         }
         row[k]
     }

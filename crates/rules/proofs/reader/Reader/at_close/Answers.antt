@@ -1,4 +1,4 @@
-use Rattle.std.proofs.Common.{◌≡◌, ℕ, Bool, List, [], ◌∷◌, ◌++◌, length, sym, refl, ap, ◌∙◌, subst}
+use Rattle.std.proofs.Common.{◌≡◌, ℕ, Bool, List, [], ◌∷◌, ◌++◌, length, sym, ap, ◌∙◌, subst}
 use Rattle.arrayvec.specs.ArrayVec.{ArrayVec}
 use Rattle.rules.specs.declared.nest.OpenList.{OpenList}
 use Rattle.rules.specs.Building.{Held}
@@ -6,7 +6,7 @@ use Rattle.rules.specs.Following.{AtItem}
 use Rattle.rules.specs.Levels.{level, levels}
 use Rattle.rules.specs.Reading.{Frame, fits}
 use Rattle.rules.proofs.Nests.{levels_push}
-use Rattle.rules.proofs.Steps.{closed_unfit, closed_whole, outer_room, same_room}
+use Rattle.rules.proofs.Steps.{closed_unfit, closed_whole, outer_room}
 use Rattle.rules.proofs.reader.Reader.at_close.Goals as goal
 
 -- the innermost list is the one that was taken out
@@ -28,10 +28,3 @@ pub returns-clause-steps : goal.returns-clause-steps
 returns-clause-steps c fs at =
     closed_whole _ _ (level c.in-Some.list) _ _ c.args.place fs c.expand-item.result c.join.result _ (taken_out _ _ _ _ _ fs c.in-Some.ensures.items at) (sym c.if-is_empty.ensures) (asked_fit c.in-Some.list _ _ c.len.ensures.value c.if-not-fits.ensures)
     c.expand-item.ensures c.join.ensures
-
-pub returns-clause-same : goal.returns-clause-same
-returns-clause-same c = record {
-  members = refl;
-  memory = refl;
-  room = same_room _ _ (level c.in-Some.list) _ _ _ c.expand-item.result (taken_out _ _ _ _ _ _ c.in-Some.ensures.items c.requires.1) c.expand-item.ensures;
-}

@@ -1,10 +1,7 @@
 use Rattle.std.proofs.Common.{arith}
 use Rattle.rules.specs.Terms.{both, either}
-use Rattle.rules.proofs.Cells.{cell_last, cell_whole, cell_one, cell_inner}
+use Rattle.rules.proofs.Cells.{cell_whole, cell_one, cell_inner}
 use Rattle.rules.proofs.terms.TermMemory.cell.Goals as goal
-
-pub returns-then-left-eq1 : goal.returns-then-left-eq1
-returns-then-left-eq1 c e es long b = cell_last c.args.item c.args.j e es (omega arith) (omega arith) b.first
 
 pub returns-then-j-left : goal.returns-then-j-left
 returns-then-j-left c e es long b = cell_whole c.args.j e es (omega arith) (omega arith) (c.put.ensures (both e _) (b.first, b.below (omega arith)))

@@ -1,13 +1,7 @@
 use Rattle.std.proofs.Common.{◌-◌, ◌∷◌, arith}
 use Rattle.rules.specs.Memory.{view}
-use Rattle.rules.proofs.Cells.{beside_from_row, filled_none, filled_more, row_kept, row_less}
+use Rattle.rules.proofs.Cells.{beside_from_row, filled_more, row_kept, row_less}
 use Rattle.rules.proofs.terms.TermMemory.cells.Goals as goal
-
-pub loop-j-init : goal.loop-j-init
-loop-j-init c e es us long ready = (
-  filled_none c.args.row.now _ _ (e ∷ es) (λ j low from to within. omega arith),
-  (λ j low from to within. ready.after j low from (omega arith) within),
-)
 
 pub loop-j-preserved : goal.loop-j-preserved
 loop-j-preserved c e es us long ready =

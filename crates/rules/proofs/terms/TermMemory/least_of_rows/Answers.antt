@@ -1,31 +1,9 @@
-use Rattle.std.proofs.Common.{◌<◌, ◌≤◌, length, sym, ◌∙◌, subst, div-le_self, suc-mul, rules, arith}
+use Rattle.std.proofs.Common.{sym, ◌∙◌, subst, rules, arith}
 use Rattle.std.specs.Slice.Iter.{chunks_exact_rest}
 use Rattle.rules.specs.Building.{AllAt}
 use Rattle.rules.specs.Memory.{view}
-use Rattle.rules.proofs.LaidOut.{RowsMade, rows_none, row_fits, count_fits, rows_more, rows_done}
+use Rattle.rules.proofs.LaidOut.{RowsMade, rows_more, rows_done}
 use Rattle.rules.proofs.terms.TermMemory.least_of_rows.Goals as goal
-
-pub loop-row-init : goal.loop-row-init
-loop-row-init c =
-    let none = rows_none {h = view c.args.self.now} {w = c.args.w} {k = c.args.inner} {j = c.args.outer} c.args.items.now.items c.new-places.result.items (chunks_exact_rest c.into_iter-row-iterator.result) c.new-places.ensures (search rules) in
-    search (rules, none)
-
-pub least-requires : goal.least-requires
-least-requires c =
-    let cut = c.in-Some.ensures.steps.1 in
-    let long = cut.1 ∙ c.loop-row.invariant.2 in
-    let fits = row_fits _ _ cut.0 long c.requires.laid_out.0 c.loop-row.invariant.3 in
-    let one = suc-mul (length c.loop-row.places.items) c.args.w in
-    let wide : length c.args.items.now.items ≤ 64 = subst (λ xs. length xs ≤ 64) c.deref.ensures.0 c.deref.ensures.1 in
-    (omega arith, omega arith, omega arith)
-
-pub push-requires : goal.push-requires
-push-requires c =
-    let cut = c.in-Some.ensures.steps.1 in
-    let fits = count_fits _ _ cut.0 (cut.1 ∙ c.loop-row.invariant.2) c.requires.laid_out.0 c.loop-row.invariant.3 in
-    let wide : length c.args.items.now.items ≤ 64 = subst (λ xs. length xs ≤ 64) c.deref.ensures.0 c.deref.ensures.1 in
-    let room : length c.loop-row.places.items < 64 = omega (arith, div-le_self (length c.args.items.now.items) c.args.w) in
-    (omega arith, room)
 
 pub loop-row-preserved : goal.loop-row-preserved
 loop-row-preserved c =

@@ -14,7 +14,7 @@ use Rattle.rules.proofs.Entries.{in_from_place}
 use Rattle.rules.proofs.Grid.{rows_even, drop_rows, take_row}
 use Rattle.rules.proofs.Inside.{inside_least}
 use Rattle.rules.proofs.LeastOf.{least_of_all, least_of_any}
-use Rattle.rules.proofs.Making.{adds_none, adds_then, adds_makes, makes_adds, all_at_kept, all_at_length, all_at_take, all_at_drop, all_at_push}
+use Rattle.rules.proofs.Making.{adds_then, adds_makes, makes_adds, all_at_kept, all_at_length, all_at_take, all_at_drop, all_at_push}
 
 pub row_within : (n w r : ℕ) → n % w ≡ 0 → r < n / w → r * w + w ≤ n
 row_within n w r h l =
@@ -61,12 +61,6 @@ row_next xs ys zs n w e long =
       sym (take-append_seam ys zs) ∙ ap (λ m. take m (ys ++ zs)) long ∙ ap (take w) e,
       sym (drop-append_seam ys zs) ∙ ap (λ m. drop m (ys ++ zs)) long ∙ ap (drop w) e ∙ drop-drop w (n * w) xs ∙ ap (λ m. drop m xs) next,
     )
-
--- no row has come yet
-pub rows_none : {h : Held} {w k j : ℕ} (items places left : List ℕ) → places ≡ [] → left ≡ items → RowsMade h h items places left w k j
-rows_none {h} {w} {k} {j} items places left none all =
-    subst (λ ps. RowsMade h h items ps left w k j) (sym none)
-    (record { count = omega arith; rest = all ∙ ap (λ m. drop m items) (sym (zero-mul w)); made = λ es s. (adds_none, tt) })
 
 module _ {h h' : Held} {items places whole : List ℕ} {w k j : ℕ} (row left : List ℕ) (cut : whole ≡ row ++ left) (long : length row ≡ w) (some : 1 ≤ w) (r : RowsMade h h' items places whole w k j) where
   -- another row is there

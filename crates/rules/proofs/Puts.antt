@@ -1,42 +1,22 @@
 -- A term that is interned is made: it stands at its place, and where it found none there are too many terms.
-use Rattle.std.proofs.Common.{◌≡◌, ℕ, Bool, true, false, List, [], ◌∷◌, length, sym, refl, ap, ◌∙◌, subst, ⊎_elim, arith}
+use Rattle.std.proofs.Common.{◌≡◌, ℕ, Bool, true, false, List, [], ◌∷◌, sym, refl, ◌∙◌, subst, ⊎_elim, arith}
 use Rattle.std.proofs.lemmas.Bool.{true≢false, false≢true}
 use Rattle.interning.specs.Interned.{Placed, Refused, Appended}
 use Rattle.interning.specs.Places.{Apart, Kept}
 use Rattle.interning.proofs.Distinct.{counted}
-use Rattle.rules.specs.declared.terms.TermKey.{TermKey}
-use Rattle.rules.specs.declared.terms.TermKey.TheVariants.{Member, Both, Either}
+use Rattle.rules.specs.declared.terms.TermKey.TheVariants.{Both, Either}
 use Rattle.rules.specs.Building.{Held, At, KeyOf, Within, Makes}
 use Rattle.rules.specs.Members.{◌∈◌, ◌⊆◌}
-use Rattle.rules.specs.TermKeys.{NamesBelow, tree}
-use Rattle.rules.specs.Terms.{Term, member, both, either, blank, same, subterms}
+use Rattle.rules.specs.Terms.{Term, both, either, blank, same, subterms}
 use Rattle.interning.proofs.Members.{absent_not_in, apart_once, in_either}
 use Rattle.rules.proofs.Subterms.{same_decides, subterms_self}
 
--- a key that stands for a term names held terms alone, and they make it up
-pub key_stands : (h : Held) (k : TermKey) (t : Term) → KeyOf h k t → h.over ≡ false → NamesBelow (length h.terms) k × (tree h.terms k ≡ t)
-key_stands h (Member v) (member w) e off = (tt, ap member e)
-key_stands h (Member v) (both s t) e off = absurd e
-key_stands h (Member v) (either s t) e off = absurd e
-key_stands h (Both a b) (member w) e off = absurd e
-key_stands h (Both a b) (both s t) e off =
-    let x = e.0 off in
-    let y = e.1 off in
-    ((x.within, y.within), λ i. both (x.here blank i) (y.here blank i))
-key_stands h (Both a b) (either s t) e off = absurd e
-key_stands h (Either a b) (member w) e off = absurd e
-key_stands h (Either a b) (both s t) e off = absurd e
-key_stands h (Either a b) (either s t) e off =
-    let x = e.0 off in
-    let y = e.1 off in
-    ((x.within, y.within), λ i. either (x.here blank i) (y.here blank i))
+-- the keys of two terms that stand at their places
+pub both_key : (h : Held) (a b : ℕ) (s t : Term) → At h a s → At h b t → KeyOf h (Both a b) (both s t)
+both_key h a b s t x y off = (((x off).within, (y off).within), λ i. both ((x off).here blank i) ((y off).here blank i))
 
--- once a term found no place, nothing is said of places, and nothing more is added
-pub makes_over : (h : Held) (p : ℕ) (t : Term) → h.over ≡ true → Makes h h p t
-makes_over h p t over = record {
-  adds = record { kept = λ q u at. at; only = λ ts sub within. within; room = refl };
-  at = λ not. absurd (true≢false (sym over ∙ not));
-}
+pub either_key : (h : Held) (a b : ℕ) (s t : Term) → At h a s → At h b t → KeyOf h (Either a b) (either s t)
+either_key h a b s t x y off = (((x off).within, (y off).within), λ i. either ((x off).here blank i) ((y off).here blank i))
 
 module _ (ts ts' : List Term) (room : ℕ) (t : Term) where
   abbrev before : Held

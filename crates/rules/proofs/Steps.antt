@@ -1,8 +1,8 @@
 -- Each way of a step of the reader is the way of the reading's step.
-use Rattle.std.proofs.Common.{◌≡◌, ℕ, ◌<◌, ◌≤◌, Bool, true, false, cond, eqb, leb, List, [], ◌∷◌, map, length, Some, None, Ok, Err, Result, sym, refl, ap, ◌∙◌, subst, arith}
-use Rattle.std.proofs.lemmas.Bool.{cond-true, cond-false, eq-eqb, le-leb, lt-leb}
+use Rattle.std.proofs.Common.{◌≡◌, ℕ, ◌<◌, ◌≤◌, Bool, true, false, cond, eqb, leb, List, [], ◌∷◌, length, Some, None, Ok, Err, Result, sym, refl, ap, ◌∙◌, subst, arith}
+use Rattle.std.proofs.lemmas.Bool.{cond-true, cond-false, le-leb, lt-leb}
 use Rattle.rules.specs.declared.faults.RuleFault.{RuleFault}
-use Rattle.rules.specs.declared.faults.RuleFault.TheVariants.{Token as Unfit, Depth, Shape}
+use Rattle.rules.specs.declared.faults.RuleFault.TheVariants.{Depth, Shape}
 use Rattle.rules.specs.declared.reader.Wants.{Wants}
 use Rattle.rules.specs.declared.reader.Wants.TheVariants.{Item, Bracket as WantsBracket}
 use Rattle.rules.specs.declared.tokens.Kind.{Kind}
@@ -14,8 +14,7 @@ use Rattle.rules.specs.Following.{Follows, Steps, Joined, AtItem, after, frames_
 use Rattle.rules.specs.Levels.{Level, crowded as crowded_levels}
 use Rattle.rules.specs.Reading.{Frame, State, wants_bracket, crowded, after_word, close, at_item, at_bracket, in_range, fits}
 use Rattle.rules.specs.Rules.{Rule}
-use Rattle.rules.specs.Spelling.{Figure}
-use Rattle.rules.specs.Terms.{Term, expand, expand_list, member, subterms}
+use Rattle.rules.specs.Terms.{Term, expand_list, member, subterms}
 use Rattle.interning.proofs.Members.{in_right}
 use Rattle.rules.proofs.Followed.{levels_length, level_length, crowded_same, follows_open, follows_made, follows_closed}
 
@@ -38,22 +37,9 @@ module _ (n : ℕ) (h : Held) (x : Head) (ls : List Level) (fs : List Frame) (at
 
 -- what is known of the innermost list
 module _ (n : ℕ) (h : Held) (l : Level) (ls : List Level) where
-  pub inner_figure : (fs : List Frame) → AtItem n h (l ∷ ls) fs → Figure l.head
-  inner_figure [] at = absurd at.stand
-  inner_figure (f ∷ fs) at = subst Figure (sym at.stand.0.head) at.frames_good.1
-
-  pub inner_few : (fs : List Frame) → AtItem n h (l ∷ ls) fs → length l.places ≤ 64
-  inner_few [] at = absurd at.stand
-  inner_few (f ∷ fs) at = omega (arith, level_length h l f at.stand.0, at.frames_good.2)
-
   pub outer_room : (fs : List Frame) → AtItem n h (l ∷ ls) fs → crowded_levels ls ≡ false
   outer_room [] at = absurd at.stand
   outer_room (f ∷ fs) at = crowded_same h ls fs at.stand.1 ∙ at.frames_good.4
-
-  pub closed_empty : (p : ℕ) (fs : List Frame) → AtItem n h (l ∷ ls) fs → length l.places ≡ 0 → Steps n h (Err (Unfit p)) ls (close p fs)
-  closed_empty p [] at none = absurd at.stand
-  closed_empty p (f ∷ fs) at none =
-      steps_err n h (Unfit p) ls _ (cond-true (eqb (length f.items) 0) _ _ (eq-eqb (length f.items) 0 (sym (level_length h l f at.stand.0) ∙ none)))
 
   some_items : (f : Frame) (fs : List Frame) → AtItem n h (l ∷ ls) (f ∷ fs) → eqb (length l.places) 0 ≡ false → eqb (length f.items) 0 ≡ false
   some_items f fs at some = ap (λ m. eqb m 0) (sym (level_length h l f at.stand.0)) ∙ some
@@ -73,11 +59,6 @@ module _ (n : ℕ) (h : Held) (l : Level) (ls : List Level) where
       let fit' = fit_same f fs at ∙ fit in
       steps_ok n h' w ms _ _ (cond-false (eqb (length f.items) 0) _ _ some' ∙ cond-true (fits f.head (length f.items)) _ _ fit')
       (follows_closed n h l ls f fs at h' i w ms some' fit' makes j)
-
-  -- what was made of the list's items was made in as many places
-  pub same_room : (h' : Held) (fs : List Frame) (i : ℕ) → AtItem n h (l ∷ ls) fs → ((es : List Term) → AllAt h l.places es → Makes h h' i (expand_list l.head es)) → h'.room ≡ h.room
-  same_room h' [] i at makes = absurd at.stand
-  same_room h' (f ∷ fs) i at makes = (makes (map expand f.items) at.stand.0.items).adds.room
 
 -- a number that was found in its range
 pub ranged : (b : Bool) (m v : ℕ) → Some m ≡ cond b (Some v) None → (b ≡ true) × (m ≡ v)

@@ -3,8 +3,8 @@ use Rattle.std.specs.Prelude.{◌≡◌, ℕ, ◌<◌, Bool, true, false, List, 
 use Rattle.interning.specs.Distinct.{distinct}
 use Rattle.interning.specs.Places.{Stands}
 use Rattle.rules.specs.declared.terms.TermKey.{TermKey}
-use Rattle.rules.specs.declared.terms.TermKey.TheVariants.{Member, Both, Either}
-use Rattle.rules.specs.Terms.{Term, member, both, either, subterms, same}
+use Rattle.rules.specs.TermKeys.{NamesBelow, tree}
+use Rattle.rules.specs.Terms.{Term, subterms, same}
 use Rattle.rules.specs.Members.{◌⊆◌}
 
 -- how many different terms a list has
@@ -28,17 +28,9 @@ AllAt h [] (t ∷ ts) = ⊥
 AllAt h (p ∷ ps) [] = ⊥
 AllAt h (p ∷ ps) (t ∷ ts) = At h p t × AllAt h ps ts
 
--- a key stands for a term: the parts of the term stand at the places that the key names
+-- where no term went without a place, a key stands for t: it names held terms alone, and they make up t
 abbrev pub KeyOf : Held → TermKey → Term → Type 0
-KeyOf h (Member v) (member w) = v ≡ w
-KeyOf h (Member v) (both s t) = ⊥
-KeyOf h (Member v) (either s t) = ⊥
-KeyOf h (Both a b) (member w) = ⊥
-KeyOf h (Both a b) (both s t) = At h a s × At h b t
-KeyOf h (Both a b) (either s t) = ⊥
-KeyOf h (Either a b) (member w) = ⊥
-KeyOf h (Either a b) (both s t) = ⊥
-KeyOf h (Either a b) (either s t) = At h a s × At h b t
+KeyOf h k t = h.over ≡ false → NamesBelow (length h.terms) k × (tree h.terms k ≡ t)
 
 -- no term is held but those of ts, and where one has found no place these are too many
 pub record Within (h : Held) (ts : List Term) : Type 0 where

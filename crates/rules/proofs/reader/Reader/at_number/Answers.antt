@@ -8,7 +8,7 @@ returns-then-is_crowded-clause-steps c fs at = number_crowded _ _ _ fs at c.args
 
 pub returns-clause-steps : goal.returns-clause-steps
 returns-clause-steps c fs at =
-    number_joined _ _ _ fs at c.args.place c.in-Some.member c.args.value c.in-Some.ensures _ c.put-item.result c.join.result _ (sym c.if-is_crowded.ensures) (c.put-item.ensures (member c.in-Some.member) refl) c.join.ensures
+    number_joined _ _ _ fs at c.args.place c.in-Some.member c.args.value c.in-Some.ensures _ c.put-item.result c.join.result _ (sym c.if-is_crowded.ensures) (c.put-item.ensures (member c.in-Some.member) (λ _. (tt, refl))) c.join.ensures
 
 pub returns-clause-same : goal.returns-clause-same
-returns-clause-same c = record { members = refl; memory = refl; room = (c.put-item.ensures (member c.in-Some.member) refl).adds.room }
+returns-clause-same c = record { members = refl; memory = refl; room = (c.put-item.ensures (member c.in-Some.member) (λ _. (tt, refl))).adds.room }

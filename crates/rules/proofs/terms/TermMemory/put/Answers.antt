@@ -10,7 +10,7 @@ use Rattle.rules.specs.declared.terms.TermMemory.{TermMemory}
 use Rattle.rules.specs.Memory.{view}
 use Rattle.rules.specs.TermKeys.{NamesBelow, tree}
 use Rattle.rules.proofs.Memories.{memory_apart}
-use Rattle.rules.proofs.Puts.{key_stands, makes_known, refused_known}
+use Rattle.rules.proofs.Puts.{makes_known, refused_known}
 use Rattle.rules.proofs.TermTrees.{readable, rooted_out, rooted_placed}
 use Rattle.rules.proofs.terms.TermMemory.put.Goals as goal
 
@@ -44,12 +44,12 @@ pub returns-in-Ok : goal.returns-in-Ok
 returns-in-Ok c t told =
     let m = c.args.self.now in
     makes_known (view m).terms (decode tree (held c.intern.new.self)) (capacity m.interner) (capacity c.intern.new.self) m.overfull c.in-Ok.place (tree (view m).terms c.args.key) t
-    c.if-self.false c.in-Ok.ensures.capacity (key_stands (view m) c.args.key t told c.if-self.false).1
+    c.if-self.false c.in-Ok.ensures.capacity (told c.if-self.false).1
     (lifted m c.args.key (Ok c.in-Ok.place) (held c.intern.new.self) (c.if-not-names.ensures.0 refl) (c.in-Ok.ensures.interned m.sound))
 
 pub returns-in-Err : goal.returns-in-Err
 returns-in-Err c t told =
     let m = c.args.self.now in
     refused_known (view m).terms (decode tree (held c.intern.new.self)) (capacity m.interner) (capacity c.intern.new.self) m.overfull 0 (tree (view m).terms c.args.key) t
-    c.if-self.false c.in-Err.ensures.capacity (key_stands (view m) c.args.key t told c.if-self.false).1 (memory_apart m)
+    c.if-self.false c.in-Err.ensures.capacity (told c.if-self.false).1 (memory_apart m)
     (lifted m c.args.key (Err c.in-Err.field-0) (held c.intern.new.self) (c.if-not-names.ensures.0 refl) (c.in-Err.ensures.interned m.sound))

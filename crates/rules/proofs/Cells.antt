@@ -1,5 +1,5 @@
 -- The cells of the table that `least k` is made from: what each is made of, and a row that is written from its last cell to its first.
-use Rattle.std.proofs.Common.{◌≡◌, ℕ, suc, ◌+◌, ◌-◌, ◌<◌, ◌≤◌, ◌≢◌, List, [], ◌∷◌, length, get_or, set, sym, subst, ⊎_elim, arith}
+use Rattle.std.proofs.Common.{◌≡◌, ℕ, suc, ◌+◌, ◌-◌, ◌<◌, ◌≤◌, ◌≢◌, List, ◌∷◌, length, get_or, set, sym, subst, ⊎_elim, arith}
 use Rattle.std.proofs.lemmas.List.{get_or-set_same, get_or-set_other}
 use Rattle.std.proofs.lemmas.Bool.{cases_eq}
 use Rattle.rules.specs.Building.{Held, At, Adds, Makes}
@@ -7,12 +7,8 @@ use Rattle.rules.specs.Expanding.{Beside, Row, Filled}
 use Rattle.rules.specs.Members.{◌⊆◌}
 use Rattle.rules.specs.Terms.{Term, both, either, subterms, least_of}
 use Rattle.rules.proofs.LeastOf.{least_of_one, least_of_whole, least_of_inner}
-use Rattle.rules.proofs.Making.{makes_standing, makes_then, makes_adds, adds_none, adds_then}
+use Rattle.rules.proofs.Making.{makes_then, makes_adds, adds_none, adds_then}
 use Rattle.rules.proofs.Subterms.{either_left}
-
-pub cell_last : {h : Held} (p j : ℕ) (e : Term) (es : List Term) → j ≡ 1 → length es ≡ 0 → At h p e → Makes h h p (least_of j (e ∷ es))
-cell_last {h} p j e [] q l a = subst (λ n. Makes h h p (least_of n (e ∷ []))) (sym q) (makes_standing p e a)
-cell_last {h} p j e (f ∷ es) q l a = absurd (omega arith)
 
 pub cell_whole : {h h' : Held} {r : ℕ} (j : ℕ) (e : Term) (es : List Term) → 1 ≤ length es → j ≡ suc (length es) → Makes h h' r (both e (least_of (j - 1) es)) → Makes h h' r (least_of j (e ∷ es))
 cell_whole {h} {h'} {r} j e es l q m = subst (λ t. Makes h h' r t) (sym (least_of_whole j e es l q)) m

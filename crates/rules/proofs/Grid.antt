@@ -10,7 +10,7 @@ use Rattle.rules.specs.Reading.{fits, in_range}
 use Rattle.rules.specs.Spelling.{Figure}
 use Rattle.rules.specs.Terms.{Term, subterms, all_of, any_of, grid_of, expand_list}
 use Rattle.rules.specs.Members.{◌∈◌, ◌⊆◌}
-use Rattle.rules.proofs.Subterms.{both_left, both_right}
+use Rattle.rules.proofs.Subterms.{both_left}
 use Rattle.rules.proofs.Inside.{inside_all, inside_any, inside_least}
 
 -- a figure is at least 1
@@ -55,14 +55,8 @@ in_rows w xs x h m = in_cut (length xs / w) w xs x (rows_even (length xs) w h) m
 pub rows_all_inside : (w : ℕ) (es : List Term) → subterms (any_of (map all_of (rows w es))) ⊆ subterms (grid_of w es)
 rows_all_inside w es = both_left (any_of (map all_of (rows w es))) (all_of (map any_of (rows w es)))
 
-pub rows_any_inside : (w : ℕ) (es : List Term) → subterms (all_of (map any_of (rows w es))) ⊆ subterms (grid_of w es)
-rows_any_inside w es = both_right (any_of (map all_of (rows w es))) (all_of (map any_of (rows w es)))
-
 pub row_all_inside : (w : ℕ) (es row : List Term) → row ∈ rows w es → subterms (all_of row) ⊆ subterms (grid_of w es)
 row_all_inside w es row m x k = rows_all_inside w es x (inside_any (map all_of (rows w es)) (all_of row) (in_map all_of (rows w es) row m) x k)
-
-pub row_any_inside : (w : ℕ) (es row : List Term) → row ∈ rows w es → subterms (any_of row) ⊆ subterms (grid_of w es)
-row_any_inside w es row m x k = rows_any_inside w es x (inside_all (map any_of (rows w es)) (any_of row) (in_map any_of (rows w es) row m) x k)
 
 pub inside_grid : (w : ℕ) (es : List Term) (e : Term) → eqb (length es % w) 0 ≡ true → e ∈ es → subterms e ⊆ subterms (grid_of w es)
 inside_grid w es e h m x k = let r = in_rows w es e h m in row_all_inside w es r.0 r.1 x (inside_all r.0 e r.2 x k)

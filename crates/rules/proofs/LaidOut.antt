@@ -1,8 +1,10 @@
 -- A list laid out in rows, row by row: where a row stands in the list, and the grid's term as two terms of "least of the rows".
-use Rattle.std.proofs.Common.{◌≡◌, ℕ, zero, suc, ◌+◌, ◌*◌, ◌/◌, ◌%◌, ◌<◌, ◌≤◌, List, [], ◌∷◌, map, length, get_or, take, drop, set, sym, refl, ap, ◌∙◌, subst, ap₂, le_of_suc-le-suc, not-suc-le-zero, mul-le-mul_right, suc-mul, zero-mul, arith}
+use Rattle.std.proofs.Common.{◌≡◌, ℕ, zero, suc, ◌+◌, ◌*◌, ◌/◌, ◌%◌, ◌<◌, ◌≤◌, List, [], ◌∷◌, ◌++◌, map, length, get_or, take, drop, sym, refl, ap, ◌∙◌, subst, ap₂, le_of_suc-le-suc, not-suc-le-zero, mul-le-mul_right, suc-mul, zero-mul, ⊎_elim, arith}
 use lib.ListN.{length-map}
-use Rattle.std.proofs.lemmas.List.{drop-drop, get_or-map}
-use Rattle.std.proofs.lemmas.Bool.{eq-eqb}
+use Rattle.std.proofs.lemmas.List.{drop-drop, get_or-map, length-append, length-drop, take_all, take_more}
+use Rattle.std.proofs.lemmas.Nat.{le-div}
+use Rattle.std.proofs.Math.Seq.{take-append_seam, drop-append_seam}
+use Rattle.std.proofs.lemmas.Bool.{cases_lt, eq-eqb}
 use Rattle.rules.specs.Building.{Held, AllAt, Adds, Makes}
 use Rattle.rules.specs.Expanding.{parts}
 use Rattle.rules.specs.Members.{◌⊆◌}
@@ -12,7 +14,7 @@ use Rattle.rules.proofs.Entries.{in_from_place}
 use Rattle.rules.proofs.Grid.{rows_even, drop_rows, take_row}
 use Rattle.rules.proofs.Inside.{inside_least}
 use Rattle.rules.proofs.LeastOf.{least_of_all, least_of_any}
-use Rattle.rules.proofs.Making.{adds_then, makes_adds, all_at_kept, all_at_write}
+use Rattle.rules.proofs.Making.{adds_then, adds_makes, makes_adds, all_at_kept, all_at_length, all_at_take, all_at_drop, all_at_push}
 
 pub row_within : (n w r : ℕ) → n % w ≡ 0 → r < n / w → r * w + w ≤ n
 row_within n w r h l =
@@ -45,14 +47,62 @@ part_inside w k j r es low high l =
     let size = length_parts w k es in
     inside_least j (parts w k es) (get_or (parts w k es) r blank) low (omega arith) (in_from_place (parts w k es) r blank (omega arith))
 
--- the places of the first r rows' terms, and of one more
-pub parts_more : {h h' h'' : Held} (places : List ℕ) (w k j r p : ℕ) (es : List Term) → 1 ≤ j → j ≤ length es / w → r < length es / w → r < length places → Adds h h' (subterms (least_of j (parts w k es))) × AllAt h' (take r places) (take r (parts w k es)) → Makes h' h'' p (least_of k (take w (drop (r * w) es))) → Adds h h'' (subterms (least_of j (parts w k es))) × AllAt h'' (take (r + 1) (set places r p)) (take (r + 1) (parts w k es))
-parts_more {h} {h'} {h''} places w k j r p es low high l m before made =
-    let size = length_parts w k es in
-    let part = subst (λ t. Makes h' h'' p t) (sym (part_at w k r es l)) made in (
-      adds_then before.0 (makes_adds (part_inside w k j r es low high l) part),
-      all_at_write h'' places (parts w k es) r p m (omega arith) (all_at_kept part.adds (take r places) (take r (parts w k es)) before.1) part.at,
+-- of a list of items, the rows whose terms stand at the places of another list, and the items that are left
+pub record RowsMade (h h' : Held) (items places left : List ℕ) (w k j : ℕ) : Type 0 where
+  pub count : length places ≤ length items / w
+  pub rest : left ≡ drop (length places * w) items
+  pub made : (es : List Term) → AllAt h items es → Adds h h' (subterms (least_of j (parts w k es))) × AllAt h' places (take (length places) (parts w k es))
+
+-- the next row
+row_next : {A : Type 0} (xs ys zs : List A) (n w : ℕ) → ys ++ zs ≡ drop (n * w) xs → length ys ≡ w → (ys ≡ take w (drop (n * w) xs)) × (zs ≡ drop (suc n * w) xs)
+row_next xs ys zs n w e long =
+    let one = suc-mul n w in
+    let next : n * w + w ≡ suc n * w = omega arith in (
+      sym (take-append_seam ys zs) ∙ ap (λ m. take m (ys ++ zs)) long ∙ ap (take w) e,
+      sym (drop-append_seam ys zs) ∙ ap (λ m. drop m (ys ++ zs)) long ∙ ap (drop w) e ∙ drop-drop w (n * w) xs ∙ ap (λ m. drop m xs) next,
     )
+
+module _ {h h' : Held} {items places whole : List ℕ} {w k j : ℕ} (row left : List ℕ) (cut : whole ≡ row ++ left) (long : length row ≡ w) (some : 1 ≤ w) (r : RowsMade h h' items places whole w k j) where
+  -- another row is there
+  pub row_fits : suc (length places) * w ≤ length items
+  row_fits =
+      let one = suc-mul (length places) w in
+      omega (arith, ap length (sym cut ∙ r.rest), length-append row left, length-drop (length places * w) items)
+
+  pub count_fits : length places < length items / w
+  count_fits = le-div (suc (length places)) (length items) w some row_fits
+
+  pub rows_more : {h'' : Held} (p : ℕ) → 1 ≤ j → j ≤ length items / w → ((es : List Term) → AllAt h' row es → Makes h' h'' p (least_of k es)) → RowsMade h h'' items (places ++ (p ∷ [])) left w k j
+  rows_more {h''} p low high makes =
+      let n = length places in
+      let more = length-append places (p ∷ []) in
+      let next = row_next items row left n w (sym cut ∙ r.rest) long in
+      record {
+        count = omega (arith, count_fits);
+        rest = next.1 ∙ ap (λ m. drop (m * w) items) (omega arith);
+        made = λ es s.
+            let ts = parts w k es in
+            let size = length_parts w k es in
+            let count = subst (λ m. (j ≤ m / w) × (n < m / w)) (all_at_length h items es s) (high, count_fits) in
+            let before = r.made es s in
+            let standing = subst (λ ps. AllAt h' ps (take w (drop (n * w) es))) (sym next.0) (all_at_take h' w (drop (n * w) items) (drop (n * w) es) (all_at_drop h' (n * w) items es (all_at_kept before.0 items es s))) in
+            let made = subst (Makes h' h'' p) (sym (part_at w k n es count.1)) (makes (take w (drop (n * w) es)) standing) in (
+              adds_then before.0 (makes_adds (part_inside w k j n es low count.0 count.1) made),
+              subst (AllAt h'' (places ++ (p ∷ []))) (sym (ap (λ m. take m ts) more ∙ take_more ts n blank (omega arith)))
+                  (all_at_push h'' places (take n ts) p (get_or ts n blank) (all_at_kept made.adds places (take n ts) before.1) made.at),
+            );
+      }
+
+-- too few items are left for a row, so each row's term has its place
+pub rows_done : {h h' h'' : Held} {items places left : List ℕ} {w k j q : ℕ} → length items % w ≡ 0 → length left < w → RowsMade h h' items places left w k j → (es : List Term) → AllAt h items es → ((ts : List Term) → AllAt h' places ts → Makes h' h'' q (least_of j ts)) → Makes h h'' q (least_of j (parts w k es))
+rows_done {h} {h'} {h''} {items} {places} {left} {w} {k} {j} {q} even few r es s makes =
+    let ts = parts w k es in
+    let before = r.made es s in
+    let same : length ts ≡ length items / w = length_parts w k es ∙ ap (λ m. m / w) (sym (all_at_length h items es s)) in
+    let full : length ts ≤ length places =
+    ⊎_elim (λ (l : length places < length items / w). let within = row_within (length items) w (length places) even l in absurd (omega (arith, ap length r.rest, length-drop (length places * w) items)))
+    (λ (g : length items / w ≤ length places). omega arith) (cases_lt (length places) (length items / w)) in
+    adds_makes before.0 (makes ts (subst (AllAt h' places) (take_all (length places) ts full) before.1))
 
 rows_all : (r w : ℕ) (es : List Term) → length es ≡ r * w → map (least_of w) (cut r w es) ≡ map all_of (cut r w es)
 rows_all zero w es h = refl

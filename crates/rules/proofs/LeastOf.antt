@@ -20,9 +20,6 @@ pub any_of_more : (e : Term) (es : List Term) → 1 ≤ length es → any_of (e 
 any_of_more e [] h = absurd (not-suc-le-zero h)
 any_of_more e (f ∷ es) h = refl
 
-pub least_of_last : (e : Term) → least_of 1 (e ∷ []) ≡ e
-least_of_last e = refl
-
 pub least_of_one : (e : Term) (es : List Term) → 1 ≤ length es → least_of 1 (e ∷ es) ≡ either e (least_of 1 es)
 least_of_one e es h = least_of_any (e ∷ es) ∙ any_of_more e es h ∙ ap (either e) (sym (least_of_any es))
 

@@ -1,6 +1,5 @@
 pub mod Table
-pub mod Stack
-pub mod OpenLists
+pub mod Nests
 pub mod Ranks
 pub mod Cuts
 pub mod Numerals

@@ -1,9 +1,8 @@
 -- One making after another: what was added by both, and what stands at its place all the while.
-use Rattle.std.proofs.Common.{◌≡◌, ℕ, zero, suc, ◌+◌, ◌<◌, ◌≤◌, List, [], ◌∷◌, ◌++◌, length, get_or, take, drop, set, sym, refl, ap, ◌∙◌, subst, le_of_suc-le-suc, not-suc-le-zero}
-use Rattle.std.proofs.lemmas.List.{take_all, take_more, take_more_set}
+use Rattle.std.proofs.Common.{◌≡◌, ℕ, zero, suc, ◌<◌, List, [], ◌∷◌, ◌++◌, length, get_or, take, drop, refl, ap, ◌∙◌, le_of_suc-le-suc, not-suc-le-zero}
 use Rattle.rules.specs.Building.{Held, At, AllAt, Adds, Makes}
 use Rattle.rules.specs.Members.{◌⊆◌}
-use Rattle.rules.specs.Terms.{Term, both, blank, subterms}
+use Rattle.rules.specs.Terms.{Term, both, subterms}
 use Rattle.rules.proofs.Subterms.{both_left, both_right}
 
 pub adds_none : {h : Held} {us : List Term} → Adds h h us
@@ -67,17 +66,6 @@ all_at_push h [] [] p t s a = (a, tt)
 all_at_push h [] (u ∷ ts) p t s a = absurd s
 all_at_push h (q ∷ ps) [] p t s a = absurd s
 all_at_push h (q ∷ ps) (u ∷ ts) p t s a = (s.0, all_at_push h ps ts p t s.1 a)
-
--- an array that holds the places of the first r terms, and one more
-pub all_at_write : (h : Held) (ps : List ℕ) (ts : List Term) (r p : ℕ) → r < length ps → r < length ts → AllAt h (take r ps) (take r ts) → At h p (get_or ts r blank) → AllAt h (take (r + 1) (set ps r p)) (take (r + 1) ts)
-all_at_write h ps ts r p l m s a =
-    subst (λ qs. AllAt h qs (take (r + 1) ts)) (sym (take_more_set ps r p l))
-    (subst (λ us. AllAt h (take r ps ++ (p ∷ [])) us) (sym (take_more ts r blank m)) (all_at_push h (take r ps) (take r ts) p (get_or ts r blank) s a))
-
--- an array that holds the places of the first n terms holds those of all of them where there are no more
-pub all_at_full : (h : Held) (ps : List ℕ) (ts : List Term) (r n : ℕ) → r ≡ n → length ts ≤ r → AllAt h (take r ps) (take r ts) → AllAt h (take n ps) ts
-all_at_full h ps ts r n same few s =
-    subst (λ us. AllAt h (take n ps) us) (take_all r ts few) (subst (λ i. AllAt h (take i ps) (take r ts)) same s)
 
 pub both_makes : {h h' h'' h''' : Held} {p q r : ℕ} (s t : Term) → Makes h h' p s → Makes h' h'' q t → Makes h'' h''' r (both s t) → Makes h h''' r (both s t)
 both_makes {h} {h'} {h''} {h'''} {p} {q} {r} s t m n o = makes_then (both_left s t) m (makes_then (both_right s t) n o)

@@ -17,10 +17,10 @@ use Rattle.rules.proofs.TermTrees.{readable, rooted_out}
 
 module _ (m : TermMemory) where
   pub memory_apart : Apart (view m).terms
-  memory_apart = decode_apart readable (held m.interner) (rooted_out _ m.rooted) (held_apart m.interner m.sound)
+  memory_apart = decode_apart readable (held m.interner) (rooted_out _ m.rooted) (held_apart m.interner)
 
   pub memory_fits : length (view m).terms ≤ (view m).room
-  memory_fits = omega (arith, length_decode tree (held m.interner), held_fits m.interner m.sound)
+  memory_fits = omega (arith, length_decode tree (held m.interner), held_fits m.interner)
 
   -- the parts of a key's term are held, if those at earlier places are held with all terms in them
   key_closed : (p : ℕ) → ((q : ℕ) → q < p → subterms (get_or (view m).terms q blank) ⊆ (view m).terms) → (k : TermKey) → NamesBelow p k → tree (view m).terms k ∈ (view m).terms → subterms (tree (view m).terms k) ⊆ (view m).terms

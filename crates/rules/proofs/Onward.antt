@@ -32,19 +32,20 @@ module _ {n : ℕ} {text : List ℕ} {h : Held} {w : Wants} {ls : List Level} {l
   come : (l : Lexeme) (later : List Lexeme) → left ≡ l ∷ later → run n (length text) (Ok o.state) (l ∷ later) ≡ run n (length text) (Ok start) (lexemes 0 text)
   come l later e = ap (run n (length text) (Ok o.state)) (sym e) ∙ o.gives
 
-  fault_ends : (h' : Held) (ms : List Level) (fault : RuleFault) (out : Result State RuleFault) (later : List Lexeme) → Steps n h' (Err fault) ms out → Off h' (Err fault) (run n (length text) out later)
-  fault_ends h' ms fault (Err g) later s = s
-  fault_ends h' ms fault (Ok st) later s = absurd s
+  fault_ends : (m : ℕ) (h' h'' : Held) (ms : List Level) (fault : RuleFault) (out : Result State RuleFault) (later : List Lexeme) → Steps m h' (Err fault) ms out → Off h'' (Err fault) (run n (length text) out later)
+  fault_ends m h' h'' ms fault (Err g) later s = s
+  fault_ends m h' h'' ms fault (Ok st) later s = absurd s
 
   -- a token is refused
-  pub token_refused : (h' : Held) (t : Token) (ms : List Level) (fault : RuleFault) (later : List Lexeme) → left ≡ Ok t ∷ later → ((s : State) → Follows n h w ls s → Steps n h' (Err fault) ms (step n s.stage s.frames t.place t.kind)) → ReadOff n text h' (Err fault)
-  token_refused h' t ms fault later e steps =
-      subst (Off h' (Err fault)) (come (Ok t) later e) (fault_ends h' ms fault _ later (steps o.state o.follows))
+  pub token_refused : (m : ℕ) (h' h'' : Held) (t : Token) (ms : List Level) (fault : RuleFault) (later : List Lexeme) → left ≡ Ok t ∷ later → ((s : State) → Follows n h w ls s → Steps m h' (Err fault) ms (step n s.stage s.frames t.place t.kind)) → ReadOff n text h'' (Err fault)
+  token_refused m h' h'' t ms fault later e steps =
+      subst (Off h'' (Err fault)) (come (Ok t) later e) (fault_ends m h' h'' ms fault _ later (steps o.state o.follows))
 
   go_on : (h' : Held) (w' : Wants) (ms : List Level) (out : Result State RuleFault) (later : List Lexeme) → run n (length text) out later ≡ run n (length text) (Ok start) (lexemes 0 text) → Steps n h' (Ok w') ms out → Onward n text h' w' ms later
   go_on h' w' ms (Err g) later gives s = absurd s
   go_on h' w' ms (Ok st) later gives s = record { state = st; follows = s; gives = gives }
 
   -- a token is taken
-  pub token_taken : (h' : Held) (t : Token) (w' : Wants) (ms : List Level) (later : List Lexeme) → left ≡ Ok t ∷ later → ((s : State) → Follows n h w ls s → Steps n h' (Ok w') ms (step n s.stage s.frames t.place t.kind)) → Onward n text h' w' ms later
-  token_taken h' t w' ms later e steps = go_on h' w' ms _ later (come (Ok t) later e) (steps o.state o.follows)
+  pub token_taken : (m : ℕ) (h' : Held) (t : Token) (w' : Wants) (ms : List Level) (later : List Lexeme) → m ≡ n → left ≡ Ok t ∷ later → ((s : State) → Follows n h w ls s → Steps m h' (Ok w') ms (step n s.stage s.frames t.place t.kind)) → Onward m text h' w' ms later
+  token_taken m h' t w' ms later same e steps =
+      subst (λ k. Steps k h' (Ok w') ms (step n o.state.stage o.state.frames t.place t.kind) → Onward k text h' w' ms later) (sym same) (go_on h' w' ms _ later (come (Ok t) later e)) (steps o.state o.follows)

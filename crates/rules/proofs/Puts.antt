@@ -4,18 +4,19 @@ use Rattle.std.proofs.lemmas.Bool.{true≢false, false≢true}
 use Rattle.interning.specs.Interned.{Placed, Refused, Appended}
 use Rattle.interning.specs.Places.{Apart, Kept}
 use Rattle.interning.proofs.Distinct.{counted}
-use Rattle.rules.specs.Building.{Held, At, Within, Makes}
+use Rattle.rules.specs.declared.terms.TermKey.TheVariants.{Both, Either}
+use Rattle.rules.specs.Building.{Held, At, KeyOf, Within, Makes}
 use Rattle.rules.specs.Members.{◌∈◌, ◌⊆◌}
-use Rattle.rules.specs.Terms.{Term, same, subterms}
+use Rattle.rules.specs.Terms.{Term, both, either, blank, same, subterms}
 use Rattle.interning.proofs.Members.{absent_not_in, apart_once, in_either}
 use Rattle.rules.proofs.Subterms.{same_decides, subterms_self}
 
--- once a term found no place, nothing is said of places, and nothing more is added
-pub makes_over : (h : Held) (p : ℕ) (t : Term) → h.over ≡ true → Makes h h p t
-makes_over h p t over = record {
-  adds = record { kept = λ q u at. at; only = λ ts sub within. within; room = refl };
-  at = λ not. absurd (true≢false (sym over ∙ not));
-}
+-- the keys of two terms that stand at their places
+pub both_key : (h : Held) (a b : ℕ) (s t : Term) → At h a s → At h b t → KeyOf h (Both a b) (both s t)
+both_key h a b s t x y off = (((x off).within, (y off).within), λ i. both ((x off).here blank i) ((y off).here blank i))
+
+pub either_key : (h : Held) (a b : ℕ) (s t : Term) → At h a s → At h b t → KeyOf h (Either a b) (either s t)
+either_key h a b s t x y off = (((x off).within, (y off).within), λ i. either ((x off).here blank i) ((y off).here blank i))
 
 module _ (ts ts' : List Term) (room : ℕ) (t : Term) where
   abbrev before : Held

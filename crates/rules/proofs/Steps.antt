@@ -1,8 +1,8 @@
 -- Each way of a step of the reader is the way of the reading's step.
 use Rattle.std.proofs.Common.{◌≡◌, ℕ, ◌<◌, ◌≤◌, Bool, true, false, cond, eqb, leb, List, [], ◌∷◌, length, Some, None, Ok, Err, Result, sym, refl, ap, ◌∙◌, subst, arith}
-use Rattle.std.proofs.lemmas.Bool.{cond-true, cond-false, eq-eqb, ne_eqb, le-leb, lt-leb}
+use Rattle.std.proofs.lemmas.Bool.{cond-true, cond-false, le-leb, lt-leb}
 use Rattle.rules.specs.declared.faults.RuleFault.{RuleFault}
-use Rattle.rules.specs.declared.faults.RuleFault.TheVariants.{Token as Unfit, Depth, Shape}
+use Rattle.rules.specs.declared.faults.RuleFault.TheVariants.{Depth, Shape}
 use Rattle.rules.specs.declared.reader.Wants.{Wants}
 use Rattle.rules.specs.declared.reader.Wants.TheVariants.{Item, Bracket as WantsBracket}
 use Rattle.rules.specs.declared.tokens.Kind.{Kind}
@@ -14,7 +14,6 @@ use Rattle.rules.specs.Following.{Follows, Steps, Joined, AtItem, after, frames_
 use Rattle.rules.specs.Levels.{Level, crowded as crowded_levels}
 use Rattle.rules.specs.Reading.{Frame, State, wants_bracket, crowded, after_word, close, at_item, at_bracket, in_range, fits}
 use Rattle.rules.specs.Rules.{Rule}
-use Rattle.rules.specs.Spelling.{Figure}
 use Rattle.rules.specs.Terms.{Term, expand_list, member, subterms}
 use Rattle.interning.proofs.Members.{in_right}
 use Rattle.rules.proofs.Followed.{levels_length, level_length, crowded_same, follows_open, follows_made, follows_closed}
@@ -38,35 +37,22 @@ module _ (n : ℕ) (h : Held) (x : Head) (ls : List Level) (fs : List Frame) (at
 
 -- what is known of the innermost list
 module _ (n : ℕ) (h : Held) (l : Level) (ls : List Level) where
-  pub inner_figure : (fs : List Frame) → AtItem n h (l ∷ ls) fs → Figure l.head
-  inner_figure [] at = absurd at.stand
-  inner_figure (f ∷ fs) at = subst Figure (sym at.stand.0.head) at.frames_good.1
-
-  pub inner_few : (fs : List Frame) → AtItem n h (l ∷ ls) fs → length l.places ≤ 64
-  inner_few [] at = absurd at.stand
-  inner_few (f ∷ fs) at = omega (arith, level_length h l f at.stand.0, at.frames_good.2)
-
   pub outer_room : (fs : List Frame) → AtItem n h (l ∷ ls) fs → crowded_levels ls ≡ false
   outer_room [] at = absurd at.stand
   outer_room (f ∷ fs) at = crowded_same h ls fs at.stand.1 ∙ at.frames_good.4
 
-  pub closed_empty : (p : ℕ) (fs : List Frame) → AtItem n h (l ∷ ls) fs → length l.places ≡ 0 → Steps n h (Err (Unfit p)) ls (close p fs)
-  closed_empty p [] at none = absurd at.stand
-  closed_empty p (f ∷ fs) at none =
-      steps_err n h (Unfit p) ls _ (cond-true (eqb (length f.items) 0) _ _ (eq-eqb (length f.items) 0 (sym (level_length h l f at.stand.0) ∙ none)))
-
-  some_items : (f : Frame) (fs : List Frame) → AtItem n h (l ∷ ls) (f ∷ fs) → (length l.places ≡ 0 → ⊥) → eqb (length f.items) 0 ≡ false
-  some_items f fs at some = ne_eqb (length f.items) 0 (λ e. some (level_length h l f at.stand.0 ∙ e))
+  some_items : (f : Frame) (fs : List Frame) → AtItem n h (l ∷ ls) (f ∷ fs) → eqb (length l.places) 0 ≡ false → eqb (length f.items) 0 ≡ false
+  some_items f fs at some = ap (λ m. eqb m 0) (sym (level_length h l f at.stand.0)) ∙ some
 
   fit_same : (f : Frame) (fs : List Frame) → AtItem n h (l ∷ ls) (f ∷ fs) → fits f.head (length f.items) ≡ fits l.head (length l.places)
   fit_same f fs at = λ i. fits (sym at.stand.0.head i) (sym (level_length h l f at.stand.0) i)
 
-  pub closed_unfit : (p : ℕ) (fs : List Frame) → AtItem n h (l ∷ ls) fs → (length l.places ≡ 0 → ⊥) → fits l.head (length l.places) ≡ false → Steps n h (Err (Shape p)) ls (close p fs)
+  pub closed_unfit : (p : ℕ) (fs : List Frame) → AtItem n h (l ∷ ls) fs → eqb (length l.places) 0 ≡ false → fits l.head (length l.places) ≡ false → Steps n h (Err (Shape p)) ls (close p fs)
   closed_unfit p [] at some unfit = absurd at.stand
   closed_unfit p (f ∷ fs) at some unfit =
       steps_err n h (Shape p) ls _ (cond-false (eqb (length f.items) 0) _ _ (some_items f fs at some) ∙ cond-false (fits f.head (length f.items)) _ _ (fit_same f fs at ∙ unfit))
 
-  pub closed_whole : (h' : Held) (p : ℕ) (fs : List Frame) (i : ℕ) (w : Wants) (ms : List Level) → AtItem n h (l ∷ ls) fs → (length l.places ≡ 0 → ⊥) → fits l.head (length l.places) ≡ true → ((es : List Term) → AllAt h l.places es → Makes h h' i (expand_list l.head es)) → Joined i ls w ms → Steps n h' (Ok w) ms (close p fs)
+  pub closed_whole : (h' : Held) (p : ℕ) (fs : List Frame) (i : ℕ) (w : Wants) (ms : List Level) → AtItem n h (l ∷ ls) fs → eqb (length l.places) 0 ≡ false → fits l.head (length l.places) ≡ true → ((es : List Term) → AllAt h l.places es → Makes h h' i (expand_list l.head es)) → Joined i ls w ms → Steps n h' (Ok w) ms (close p fs)
   closed_whole h' p [] i w ms at some fit makes j = absurd at.stand
   closed_whole h' p (f ∷ fs) i w ms at some fit makes j =
       let some' = some_items f fs at some in

@@ -1,5 +1,5 @@
 -- Keys of terms can be told by the terms that they stand for.
-use Rattle.std.proofs.Common.{◌≡◌, ℕ, ◌≤◌, List, [], ◌++◌, length, get_or, sym, refl, subst, ⊎_elim, not-suc-le-zero, arith}
+use Rattle.std.proofs.Common.{◌≡◌, ℕ, ◌≤◌, List, ◌++◌, length, get_or, sym, refl, subst, ⊎_elim, arith}
 use mathlib.Core.HLevel.{×_prop}
 use mathlib.Core.Logic.{∥∥₁_elim}
 use native.Mathlib.Bridge.{le_prop}
@@ -56,9 +56,6 @@ readable = record {
   makes = λ ts k each b. tt;
   tells = λ ts k k' each apart b c e. tells ts k k' apart b c e;
 }
-
-pub rooted_none : (ks : List TermKey) → ks ≡ [] → ∥ Rooted NamesBelow ks ∥₁
-rooted_none ks none = subst (λ xs. ∥ Rooted NamesBelow xs ∥₁) (sym none) ∣ (λ p d l. absurd (not-suc-le-zero l)) ∣₁
 
 pub rooted_placed : (cap : ℕ) (ks : List TermKey) (k : TermKey) (i : ℕ) (ks' : List TermKey) → ∥ Rooted NamesBelow ks ∥₁ → NamesBelow (length ks) k → Placed cap ks k i ks' → ∥ Rooted NamesBelow ks' ∥₁
 rooted_placed cap ks k i ks' rooted below placed =

@@ -2,6 +2,8 @@
 use Rattle.std.specs.Prelude.{◌≡◌, ℕ, ◌<◌, Bool, true, false, List, [], ◌∷◌, length}
 use Rattle.interning.specs.Distinct.{distinct}
 use Rattle.interning.specs.Places.{Stands}
+use Rattle.rules.specs.declared.terms.TermKey.{TermKey}
+use Rattle.rules.specs.TermKeys.{NamesBelow, tree}
 use Rattle.rules.specs.Terms.{Term, subterms, same}
 use Rattle.rules.specs.Members.{◌⊆◌}
 
@@ -25,6 +27,10 @@ AllAt h [] [] = Unit {0}
 AllAt h [] (t ∷ ts) = ⊥
 AllAt h (p ∷ ps) [] = ⊥
 AllAt h (p ∷ ps) (t ∷ ts) = At h p t × AllAt h ps ts
+
+-- where no term went without a place, a key stands for t: it names held terms alone, and they make up t
+abbrev pub KeyOf : Held → TermKey → Term → Type 0
+KeyOf h k t = h.over ≡ false → NamesBelow (length h.terms) k × (tree h.terms k ≡ t)
 
 -- no term is held but those of ts, and where one has found no place these are too many
 pub record Within (h : Held) (ts : List Term) : Type 0 where

@@ -1,6 +1,6 @@
 -- The open lists of a nest, the innermost first.
-use Rattle.std.specs.Prelude.{◌≡◌, ℕ, ◌<◌, Bool, false, List, [], ◌∷◌, ◌++◌, map, reverse, length, take, Some, None, Option, nat_le}
-use Rattle.rules.specs.declared.nest.Nest.{Nest}
+use Rattle.std.specs.Prelude.{ℕ, Bool, false, List, [], ◌∷◌, ◌++◌, map, reverse, length, nat_le}
+use Rattle.arrayvec.specs.ArrayVec.{ArrayVec}
 use Rattle.rules.specs.declared.nest.OpenList.{OpenList}
 use Rattle.rules.specs.declared.words.Head.{Head}
 
@@ -10,25 +10,15 @@ pub record Level : Type 0 where
   pub places : List ℕ
 
 abbrev pub level : OpenList → Level
-level o = record { head = o.head; places = take o.len o.items }
+level o = record { head = o.head; places = o.items.items }
 
-abbrev pub levels : Nest → List Level
-levels n = map level (reverse (take n.depth n.lists))
-
--- the innermost list is taken out, if there is one
-abbrev pub Popped : List Level → Option OpenList → List Level → Type 0
-Popped ls None ms = (ls ≡ []) × (ms ≡ [])
-Popped ls (Some o) ms = ls ≡ level o ∷ ms
+abbrev pub levels : ArrayVec OpenList → List Level
+levels n = map level (reverse n.items)
 
 -- the innermost list has 64 items
 abbrev pub crowded : List Level → Bool
 crowded [] = false
 crowded (l ∷ ls) = nat_le 64 (length l.places)
-
--- a list is open, and the innermost has room for an item
-abbrev pub Roomy : List Level → Type 0
-Roomy [] = ⊥
-Roomy (l ∷ ls) = length l.places < 64
 
 -- an item more in the innermost list
 abbrev pub added : ℕ → List Level → List Level

@@ -18,4 +18,5 @@ pub mod Spelling
 pub mod Laws
 pub mod Progress
 pub mod Following
+pub mod Readers
 pub mod Outcome

@@ -1,25 +1,15 @@
--- Terms over the places of other terms: hash and equality of such keys.
-use Rattle.std.specs.Prelude.{ℕ, ◌<◌, Bool, false, ◌&&◌, List, ◌==◌, slice_index_or}
+-- Terms over the places of other terms: the hash of such keys, and what they stand for.
+use Rattle.std.specs.Prelude.{ℕ, ◌<◌, List, slice_index_or}
 use Rattle.rules.specs.Terms.{Term, member, both, either, blank}
 use Rattle.interning.specs.Hash.{mixed, finished}
 use Rattle.rules.specs.declared.terms.TermKey.{TermKey}
 use Rattle.rules.specs.declared.terms.TermKey.TheVariants.{Member, Both, Either}
 
+-- the hash of a key
 abbrev pub term_mark : TermKey → ℕ
 term_mark (Member v) = finished (mixed 0 v)
 term_mark (Both a b) = finished (mixed (mixed 1 a) b)
 term_mark (Either a b) = finished (mixed (mixed 2 a) b)
-
-abbrev pub same_key : TermKey → TermKey → Bool
-same_key (Member v) (Member w) = v == w
-same_key (Member v) (Both c d) = false
-same_key (Member v) (Either c d) = false
-same_key (Both a b) (Member w) = false
-same_key (Both a b) (Both c d) = a == c && b == d
-same_key (Both a b) (Either c d) = false
-same_key (Either a b) (Member w) = false
-same_key (Either a b) (Both c d) = false
-same_key (Either a b) (Either c d) = a == c && b == d
 
 -- the places that a key names are below a bound
 abbrev pub NamesBelow : ℕ → TermKey → Type 0

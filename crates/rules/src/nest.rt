@@ -1,10 +1,10 @@
 //! The lists whose brackets are open, the innermost last, each with the places of the items read so far.
-//! Callers see the list of levels, innermost first; no index leaves this file.
-ghost use Rattle.std.specs.Prelude.{◌≡◌, ℕ, ◌<◌, ◌≤◌, [], ◌∷◌, ◌++◌, length, take};
+ghost use Rattle.std.specs.Prelude.{◌≡◌, []};
+ghost use Rattle.arrayvec.specs.ArrayVec.{ArrayVec as Items};
+ghost use Rattle.rules.specs.declared.words.Head.TheVariants.{All};
 
 use crate::words::Head;
-
-mod levels;
+use arrayvec::ArrayVec;
 
 // At most as many lists are open together.
 pub const DEPTH: usize = 16;
@@ -12,21 +12,33 @@ pub const DEPTH: usize = 16;
 // A list has at most as many items.
 pub const WIDTH: usize = 64;
 
+// The places of a list's items.
+pub type Places = ArrayVec<u32, WIDTH>;
+
 // A list whose bracket is open.
-#[derive(Clone, Copy)]
+#[derive(Drop)]
 pub struct OpenList {
-    head: Head,
-    items: [u32; WIDTH],
-    len: usize,
-    ghost wide: { length items ≡ 64 },
-    ghost within: { len ≤ 64 },
+    pub head: Head,
+    pub items: Places,
+}
+
+impl OpenList {
+    // A list without items.
+    pub(crate) fn new(head: Head) -> OpenList
+        ensures { result ≡ record { head = head; items = record { items = [] } } }
+    {
+        OpenList {
+            head,
+            items: ArrayVec::new(),
+        }
+    }
+}
+
+impl Default for OpenList {
+    fn default() -> OpenList {
+        OpenList::new(Head::All)
+    }
 }
 
 // The open lists.
-#[derive(Clone, Copy)]
-pub struct Nest {
-    lists: [OpenList; DEPTH],
-    depth: usize,
-    ghost deep: { length lists ≡ 16 },
-    ghost within: { depth ≤ 16 },
-}
+pub type Nest = ArrayVec<OpenList, DEPTH>;

@@ -4,10 +4,10 @@ ghost use Rattle.rules.specs.Memory.{view};
 ghost use Rattle.rules.specs.Outcome.{outcome, Comes, Left, ReadOff};
 
 use crate::faults::RuleFault;
-use crate::nest::Nest;
-use crate::reader::{Wants, finish, take};
+use crate::reader::{Reader, Wants};
 use crate::scanner::Scanner;
 use crate::terms::TermMemory;
+use arrayvec::ArrayVec;
 
 // A rule's text has at most as many bytes.
 pub const LONGEST: usize = 4096;
@@ -18,12 +18,17 @@ fn read_tokens(text: &[u8], n: u8, terms: &mut TermMemory<'_>) -> Result<u32, Ru
     ensures reads { ReadOff n text.now (view terms.new) result }
     ensures room { (view terms.new).room ≡ (view terms.old).room }
 {
-    let mut nest = Nest::new();
-    let mut wants = Wants::Item;
+    // built in place, so that what it leaves in the memory is known
+    let mut reader = Reader {
+        nest: ArrayVec::new(),
+        wants: Wants::Item,
+        terms,
+        n,
+    };
     for lexeme in Scanner::new(text) {
-        wants = take(&mut nest, terms, n, wants, lexeme?)?;
+        reader.take(lexeme?)?;
     }
-    finish(wants, text.len())
+    reader.finish(text.len())
 }
 
 // Reads a text into an empty memory, whatever it holds afterwards where the text is denied.

@@ -2,17 +2,18 @@
 //! It follows the definition of the reading step by step, with the places of terms where the definition has rules.
 ghost use Rattle.std.specs.Prelude.{◌≡◌, ℕ, ◌<◌, ◌≤◌, true, false, List, [], length, if◌then◌else◌, Some, None};
 ghost use Rattle.rules.specs.Building.{Held};
-ghost use Rattle.rules.specs.Following.{AtItem, Finishes, Follows, Steps, Joined, after};
+ghost use Rattle.rules.specs.Following.{Finishes, Follows, Steps, Joined, after};
 ghost use Rattle.rules.specs.Levels.{Level, levels, crowded};
 ghost use Rattle.rules.specs.Memory.{view};
+ghost use Rattle.rules.specs.Readers.{ReaderFollows, ReaderAtItem, ReaderSteps, ReaderTook, SameReader};
 ghost use Rattle.rules.specs.declared.reader.Wants.TheVariants.{Item, Figure as WantsFigure, Bracket as WantsBracket};
 ghost use Rattle.rules.specs.declared.tokens.Kind.TheVariants.{Number};
-ghost use Rattle.rules.specs.Reading.{State, Frame, wants_item, wants_figure, wants_bracket, in_range, fits as fit, figured as with_figure, at_item, at_figure, at_bracket, step, close as closes, joined};
+ghost use Rattle.rules.specs.Reading.{State, Frame, wants_item, wants_figure, wants_bracket, in_range, fits, figured, at_item, at_figure, at_bracket, step, close as closes, joined};
 ghost use Rattle.rules.specs.Spelling.{Figure};
 
 use crate::faults::RuleFault;
-use crate::nest::{DEPTH, Nest};
-use crate::terms::TermMemory;
+use crate::nest::{Nest, OpenList};
+use crate::terms::{TermKey, TermMemory};
 use crate::tokens::{Kind, Token};
 use crate::words::{Head, Word};
 
@@ -31,47 +32,48 @@ pub enum Wants {
 fn in_range(value: u16, limit: u8) -> Option<u8>
     ensures { result ≡ (if in_range limit value then Some value else None) }
 {
-    if value >= 1 && value <= u16::from(limit) {
-        Some(value as u8)
-    } else {
-        None
+    let number = u8::try_from(value).ok()?;
+    (1..=limit).contains(&number).then_some(number)
+}
+
+impl Word {
+    // The head of the word with its figure.
+    fn head(self, figure: u8) -> Head
+        ensures { result ≡ figured self figure }
+    {
+        match self {
+            Word::All => Head::All,
+            Word::Any => Head::Any,
+            Word::Least => Head::Least(figure),
+            Word::Grid => Head::Grid(figure),
+        }
     }
 }
 
-// Whether so many items fit a head.
-fn fits(head: Head, count: usize) -> bool
-    requires { Figure head }
-    ensures { result ≡ fit head count }
-{
-    match head {
-        Head::All => true,
-        Head::Any => true,
-        Head::Least(k) => usize::from(k) <= count,
-        Head::Grid(w) => count % usize::from(w) == 0,
+impl Head {
+    // Whether so many items fit the head.
+    fn fits(self, count: usize) -> bool
+        requires { Figure self }
+        ensures { result ≡ fits self count }
+    {
+        match self {
+            Head::All | Head::Any => true,
+            Head::Least(k) => usize::from(k) <= count,
+            Head::Grid(w) => count % usize::from(w) == 0,
+        }
     }
 }
 
-// What comes after a word: its figure, or its bracket where it takes none.
-fn after_word(word: Word) -> Wants
-    ensures { result ≡ after word }
-{
-    match word {
-        Word::All => Wants::Bracket(Head::All),
-        Word::Any => Wants::Bracket(Head::Any),
-        Word::Least => Wants::Figure(word),
-        Word::Grid => Wants::Figure(word),
-    }
-}
+// After a word comes its figure, or its bracket where it takes none.
+impl From<Word> for Wants {
+    ghost from_gives = { λ word r. r ≡ after word };
 
-// The head of a word with its figure.
-fn figured(word: Word, figure: u8) -> Head
-    ensures { result ≡ with_figure word figure }
-{
-    match word {
-        Word::All => Head::All,
-        Word::Any => Head::Any,
-        Word::Least => Head::Least(figure),
-        Word::Grid => Head::Grid(figure),
+    fn from(word: Word) -> Wants {
+        match word {
+            Word::All => Wants::Bracket(Head::All),
+            Word::Any => Wants::Bracket(Head::Any),
+            Word::Least | Word::Grid => Wants::Figure(word),
+        }
     }
 }
 
@@ -82,7 +84,7 @@ fn at_figure(token: Token, word: Word) -> Result<Wants, RuleFault>
     let place = token.place;
     match token.kind {
         Kind::Number(value) => match in_range(value, 64) {
-            Some(figure) => Ok(Wants::Bracket(figured(word, figure))),
+            Some(figure) => Ok(Wants::Bracket(word.head(figure))),
             None => Err(RuleFault::Range(place)),
         },
         _ => Err(RuleFault::Token(place)),
@@ -96,13 +98,23 @@ fn at_bracket(nest: &mut Nest, token: Token, head: Head) -> Result<Wants, RuleFa
     let place = token.place;
     match token.kind {
         Kind::Open => {
-            if nest.depth() >= DEPTH {
+            if nest.is_full() {
                 return Err(RuleFault::Depth(place));
             }
-            nest.open(head);
+            nest.push(OpenList::new(head));
             Ok(Wants::Item)
         }
         _ => Err(RuleFault::Token(place)),
+    }
+}
+
+// Whether the innermost list has no room for another item.
+fn is_crowded(nest: &Nest) -> bool
+    ensures { result ≡ crowded (levels nest.now) }
+{
+    match nest.last() {
+        Some(list) => list.items.is_full(),
+        None => false,
     }
 }
 
@@ -111,112 +123,111 @@ fn join(nest: &mut Nest, item: u32) -> Wants
     requires { crowded (levels nest.old) ≡ false }
     ensures { Joined item (levels nest.old) result (levels nest.new) }
 {
-    if nest.depth() == 0 {
-        return Wants::Nothing(item);
-    }
-    nest.add(item);
-    Wants::Item
-}
-
-// A closing bracket where an item is wanted.
-fn at_close(
-    nest: &mut Nest,
-    terms: &mut TermMemory<'_>,
-    n: u8,
-    place: usize,
-) -> Result<Wants, RuleFault>
-    requires { (fs : List Frame) × AtItem n (view terms.old) (levels nest.old) fs }
-    ensures steps { (fs : List Frame) → AtItem n (view terms.old) (levels nest.old) fs → Steps n (view terms.new) result (levels nest.new) (closes place fs) }
-    ensures room { (view terms.new).room ≡ (view terms.old).room }
-{
-    let Some(list) = nest.close() else {
-        return Err(RuleFault::Token(place));
-    };
-    let head = list.head();
-    let items = list.items();
-    if items.len() == 0 {
-        return Err(RuleFault::Token(place));
-    }
-    if !fits(head, items.len()) {
-        return Err(RuleFault::Shape(place));
-    }
-    let item = terms.expand(head, items);
-    Ok(join(nest, item))
-}
-
-// A number where an item is wanted.
-fn at_number(
-    nest: &mut Nest,
-    terms: &mut TermMemory<'_>,
-    n: u8,
-    place: usize,
-    value: u16,
-) -> Result<Wants, RuleFault>
-    requires { (fs : List Frame) × AtItem n (view terms.old) (levels nest.old) fs }
-    ensures steps { (fs : List Frame) → AtItem n (view terms.old) (levels nest.old) fs → Steps n (view terms.new) result (levels nest.new) (at_item n place (Number value) fs) }
-    ensures room { (view terms.new).room ≡ (view terms.old).room }
-{
-    let Some(member) = in_range(value, n) else {
-        return Err(RuleFault::Range(place));
-    };
-    if nest.is_crowded() {
-        return Err(RuleFault::Shape(place));
-    }
-    let item = terms.member(member);
-    Ok(join(nest, item))
-}
-
-// A token where an item is wanted.
-fn at_item(
-    nest: &mut Nest,
-    terms: &mut TermMemory<'_>,
-    n: u8,
-    token: Token,
-) -> Result<Wants, RuleFault>
-    requires { (fs : List Frame) × AtItem n (view terms.old) (levels nest.old) fs }
-    ensures steps { (fs : List Frame) → AtItem n (view terms.old) (levels nest.old) fs → Steps n (view terms.new) result (levels nest.new) (at_item n token.place token.kind fs) }
-    ensures room { (view terms.new).room ≡ (view terms.old).room }
-{
-    let place = token.place;
-    match token.kind {
-        Kind::Number(value) => at_number(nest, terms, n, place, value),
-        Kind::Word(word) => {
-            if nest.is_crowded() {
-                return Err(RuleFault::Shape(place));
-            }
-            Ok(after_word(word))
+    match nest.last_mut() {
+        Some(list) => {
+            list.items.push(item);
+            Wants::Item
         }
-        Kind::Open => Err(RuleFault::Token(place)),
-        Kind::Close => at_close(nest, terms, n, place),
+        None => Wants::Nothing(item),
     }
 }
 
-// One token more.
-pub(crate) fn take(
-    nest: &mut Nest,
-    terms: &mut TermMemory<'_>,
-    n: u8,
-    wants: Wants,
-    token: Token,
-) -> Result<Wants, RuleFault>
-    requires { (s : State) × Follows n (view terms.old) wants (levels nest.old) s }
-    ensures steps { (s : State) → Follows n (view terms.old) wants (levels nest.old) s → Steps n (view terms.new) result (levels nest.new) (step n s.stage s.frames token.place token.kind) }
-    ensures room { (view terms.new).room ≡ (view terms.old).room }
-{
-    match wants {
-        Wants::Item => at_item(nest, terms, n, token),
-        Wants::Figure(word) => at_figure(token, word),
-        Wants::Bracket(head) => at_bracket(nest, token, head),
-        Wants::Nothing(_) => Err(RuleFault::Token(token.place)),
-    }
+// Reads the tokens of one text, over members up to n: the open lists, what is wanted next, and the memory of the terms made so far.
+#[derive(Drop)]
+pub struct Reader<'m, 'a> {
+    pub(crate) nest: Nest,
+    pub(crate) wants: Wants,
+    pub(crate) terms: &'m mut TermMemory<'a>,
+    pub(crate) n: u8,
 }
 
-// The place of the whole rule at the end of a text of this length.
-pub(crate) fn finish(wants: Wants, len: usize) -> Result<u32, RuleFault>
-    ensures { Finishes wants len result }
-{
-    match wants {
-        Wants::Nothing(place) => Ok(place),
-        _ => Err(RuleFault::Token(len)),
+impl<'m, 'a> Reader<'m, 'a> {
+    // A closing bracket where an item is wanted.
+    fn at_close(&mut self, place: usize) -> Result<Wants, RuleFault>
+        requires { (fs : List Frame) × ReaderAtItem self.old fs }
+        ensures steps { (fs : List Frame) → ReaderAtItem self.old fs → ReaderSteps self.new result (closes place fs) }
+        ensures same { SameReader self.old self.new }
+    {
+        let Some(list) = self.nest.pop() else {
+            return Err(RuleFault::Token(place));
+        };
+        if list.items.is_empty() {
+            return Err(RuleFault::Token(place));
+        }
+        if !list.head.fits(list.items.len()) {
+            return Err(RuleFault::Shape(place));
+        }
+        let item = self.terms.expand(list.head, &list.items);
+        Ok(join(&mut self.nest, item))
+    }
+
+    // A number where an item is wanted.
+    fn at_number(&mut self, place: usize, value: u16) -> Result<Wants, RuleFault>
+        requires { (fs : List Frame) × ReaderAtItem self.old fs }
+        ensures steps { (fs : List Frame) → ReaderAtItem self.old fs → ReaderSteps self.new result (at_item self.old.n place (Number value) fs) }
+        ensures same { SameReader self.old self.new }
+    {
+        let Some(member) = in_range(value, self.n) else {
+            return Err(RuleFault::Range(place));
+        };
+        if is_crowded(&self.nest) {
+            return Err(RuleFault::Shape(place));
+        }
+        let item = self.terms.put(TermKey::Member(member));
+        Ok(join(&mut self.nest, item))
+    }
+
+    // A token where an item is wanted.
+    fn at_item(&mut self, token: Token) -> Result<Wants, RuleFault>
+        requires { (fs : List Frame) × ReaderAtItem self.old fs }
+        ensures steps { (fs : List Frame) → ReaderAtItem self.old fs → ReaderSteps self.new result (at_item self.old.n token.place token.kind fs) }
+        ensures same { SameReader self.old self.new }
+    {
+        let place = token.place;
+        match token.kind {
+            Kind::Number(value) => self.at_number(place, value),
+            Kind::Word(word) => {
+                if is_crowded(&self.nest) {
+                    return Err(RuleFault::Shape(place));
+                }
+                Ok(Wants::from(word))
+            }
+            Kind::Open => Err(RuleFault::Token(place)),
+            Kind::Close => self.at_close(place),
+        }
+    }
+
+    // What is wanted after one token more.
+    fn next(&mut self, token: Token) -> Result<Wants, RuleFault>
+        requires { (s : State) × ReaderFollows self.old s }
+        ensures steps { (s : State) → ReaderFollows self.old s → ReaderSteps self.new result (step self.old.n s.stage s.frames token.place token.kind) }
+        ensures same { SameReader self.old self.new }
+    {
+        match self.wants {
+            Wants::Item => self.at_item(token),
+            Wants::Figure(word) => at_figure(token, word),
+            Wants::Bracket(head) => at_bracket(&mut self.nest, token, head),
+            Wants::Nothing(_) => Err(RuleFault::Token(token.place)),
+        }
+    }
+
+    // One token more.
+    pub(crate) fn take(&mut self, token: Token) -> Result<(), RuleFault>
+        requires { (s : State) × ReaderFollows self.old s }
+        ensures steps { (s : State) → ReaderFollows self.old s → ReaderTook self.new result (step self.old.n s.stage s.frames token.place token.kind) }
+        ensures same { SameReader self.old self.new }
+    {
+        self.wants = self.next(token)?;
+        Ok(())
+    }
+
+    // The place of the whole rule at the end of a text of this length.
+    pub(crate) fn finish(&self, len: usize) -> Result<u32, RuleFault>
+        ensures { Finishes self.now.wants len result }
+    {
+        match self.wants {
+            Wants::Nothing(place) => Ok(place),
+            _ => Err(RuleFault::Token(len)),
+        }
     }
 }

@@ -1,9 +1,9 @@
 //! Terms as keys of the interning memory: a term names its parts by their places, which stand before it.
 //! So the memory is read front to back as a list of whole terms, and equal terms have one place.
 ghost use Rattle.std.specs.Prelude.{◌≡◌};
-ghost use Rattle.interning.specs.Model.{Sound, held};
+ghost use Rattle.interning.specs.Model.{held};
 ghost use Rattle.interning.specs.Decode.{Rooted};
-ghost use Rattle.rules.specs.TermKeys.{NamesBelow, same_key, term_mark};
+ghost use Rattle.rules.specs.TermKeys.{NamesBelow, term_mark};
 ghost use Rattle.std.proofs.Common.{rules};
 
 use interning::hashing::{finish, mix};
@@ -23,11 +23,7 @@ pub enum TermKey {
 impl Key for TermKey {
     ghost mark = { term_mark };
 
-    ghost equal = { same_key };
-
     ghost sound = { Prim.search rules };
-
-    ghost whole = { Prim.search rules };
 
     ghost marked = { Prim.search rules };
 
@@ -38,15 +34,6 @@ impl Key for TermKey {
             TermKey::Either(a, b) => finish(mix(mix(2, a), b)),
         }
     }
-
-    fn same(&self, other: &TermKey) -> bool {
-        match (*self, *other) {
-            (TermKey::Member(v), TermKey::Member(w)) => v == w,
-            (TermKey::Both(a, b), TermKey::Both(c, d)) => a == c && b == d,
-            (TermKey::Either(a, b), TermKey::Either(c, d)) => a == c && b == d,
-            _ => false,
-        }
-    }
 }
 
 // The terms of one rule, each held once. It remembers whether a term has found no place.
@@ -54,6 +41,5 @@ impl Key for TermKey {
 pub struct TermMemory<'a> {
     interner: Interner<'a, TermKey>,
     overfull: bool,
-    ghost sound: { Sound term_mark interner },
     ghost rooted: { ∥ Rooted NamesBelow (held interner) ∥₁ },
 }

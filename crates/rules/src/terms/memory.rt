@@ -1,11 +1,11 @@
-ghost use Rattle.std.specs.Prelude.{◌≡◌, ℕ, true, false, [], length, Decides};
+ghost use Rattle.std.specs.Prelude.{◌≡◌, false, [], length, Decides};
 ghost use Rattle.interning.specs.Chain.{room};
 ghost use Rattle.interning.specs.Model.{held};
 ghost use Rattle.interning.specs.Places.{Read};
-ghost use Rattle.rules.specs.Building.{At, Makes};
+ghost use Rattle.rules.specs.Building.{KeyOf, Makes};
 ghost use Rattle.rules.specs.Memory.{view};
-ghost use Rattle.rules.specs.TermKeys.{NamesBelow, tree};
-ghost use Rattle.rules.specs.Terms.{Term, member, both, either};
+ghost use Rattle.rules.specs.TermKeys.{NamesBelow};
+ghost use Rattle.rules.specs.Terms.{Term};
 
 use super::{TermKey, TermMemory};
 use interning::interner::{Full, Interner};
@@ -63,10 +63,9 @@ impl<'a> TermMemory<'a> {
         }
     }
 
-    // The place of a term, which is put in if it is not held; any place once the memory is overfull.
-    fn put(&mut self, key: TermKey) -> u32
-        ensures made { (t : Term) → ((view self.old).over ≡ false → NamesBelow (length (view self.old).terms) key × (tree (view self.old).terms key ≡ t)) → Makes (view self.old) (view self.new) result t }
-        ensures room { (view self.new).room ≡ (view self.old).room }
+    // The place of the term that a key stands for, which is put in if it is not held; any place once the memory is overfull.
+    pub(crate) fn put(&mut self, key: TermKey) -> u32
+        ensures { (t : Term) → KeyOf (view self.old) key t → Makes (view self.old) (view self.new) result t }
     {
         if self.overfull || !self.names(key) {
             return 0;
@@ -78,29 +77,5 @@ impl<'a> TermMemory<'a> {
                 0
             }
         }
-    }
-
-    // The place of a member.
-    pub(crate) fn member(&mut self, v: u8) -> u32
-        ensures made { Makes (view self.old) (view self.new) result (member v) }
-        ensures room { (view self.new).room ≡ (view self.old).room }
-    {
-        self.put(TermKey::Member(v))
-    }
-
-    // The place of the both of two terms.
-    pub(crate) fn both(&mut self, a: u32, b: u32) -> u32
-        ensures made { (s t : Term) → At (view self.old) a s → At (view self.old) b t → Makes (view self.old) (view self.new) result (both s t) }
-        ensures room { (view self.new).room ≡ (view self.old).room }
-    {
-        self.put(TermKey::Both(a, b))
-    }
-
-    // The place of the either of two terms.
-    pub(crate) fn either(&mut self, a: u32, b: u32) -> u32
-        ensures made { (s t : Term) → At (view self.old) a s → At (view self.old) b t → Makes (view self.old) (view self.new) result (either s t) }
-        ensures room { (view self.new).room ≡ (view self.old).room }
-    {
-        self.put(TermKey::Either(a, b))
     }
 }

@@ -1,4 +1,4 @@
-use Rattle.std.proofs.Common.{◌≡◌}
+use Rattle.rules.specs.Readers.{SameReader}
 use Rattle.rules.specs.Levels.{levels}
 use Rattle.rules.specs.Memory.{view}
 use Rattle.rules.specs.Scanners.{left}
@@ -7,6 +7,6 @@ use Rattle.rules.proofs.read.read_tokens.Given as goal
 
 abbrev pub invariant-loop-lexeme : goal.invariant-loop-lexeme
 invariant-loop-lexeme l = record {
-  room : (view l.terms).room ≡ (view l.initial.terms).room;
-  onward : Onward l.n l.text (view l.terms) l.wants (levels l.nest) (left l.lexeme-iterator);
+  same : SameReader l.initial.reader l.reader;
+  onward : Onward l.reader.n l.text (view l.reader.terms.now) l.reader.wants (levels l.reader.nest) (left l.lexeme-iterator)
 }

@@ -2,15 +2,7 @@ use Rattle.std.proofs.Common.{false, ap, ◌∙◌}
 use Rattle.interning.specs.Decode.{decode}
 use Rattle.interning.proofs.Decode.{decode_none}
 use Rattle.rules.specs.TermKeys.{tree}
-use Rattle.rules.proofs.TermTrees.{rooted_none}
 use Rattle.rules.proofs.terms.TermMemory.clear.Goals as goal
 
-pub invariant_of-self : goal.invariant_of-self
-invariant_of-self c =
-    record {
-      sound = c.clear.ensures.sound;
-      rooted = rooted_none _ c.clear.ensures.held;
-    }
-
 pub returns : goal.returns
-returns c = record { view = λ i. record { terms = (ap (decode tree) c.clear.ensures.held ∙ decode_none tree) i; room = c.clear.ensures.capacity i; over = false } }
+returns c = record { view = λ i. record { terms = (ap (decode tree) c.clear.ensures.held ∙ decode_none tree) i; room = c.clear.ensures.slots.capacity i; over = false } }

@@ -1,10 +1,12 @@
-use Rattle.std.proofs.Common.{◌≡◌, ◌-◌, List, length, drop}
-use Rattle.rules.specs.Building.{AllAt}
-use Rattle.rules.specs.Expanding.{Filled}
+use Rattle.std.specs.Iterator.Adapters.{enumerate_count, enumerate_source, rev_source}
+use Rattle.std.specs.Slice.Iter.{iter_rest}
+use Rattle.std.proofs.Common.{◌≡◌, length}
 use Rattle.rules.specs.Memory.{view}
-use Rattle.rules.specs.Terms.{Term, subterms, least_of}
+use Rattle.rules.proofs.Rows.{RowMade}
 use Rattle.rules.proofs.terms.TermMemory.least.Given as goal
 
 abbrev pub invariant-loop-i : goal.invariant-loop-i
 invariant-loop-i l =
-    (length l.row ≡ 65) × ((view l.self).room ≡ (view l.initial.self).room) × ((es : List Term) → AllAt (view l.initial.self) l.items es → Filled (view l.initial.self) (view l.self) l.row (l.k - l.i) l.k (drop l.i es) (subterms (least_of l.k es)))
+    (goal.iterator-loop-i).can_next l.i-iterator × (goal.iterator-loop-i).is_finite l.i-iterator
+    × (length l.row ≡ 65) × (enumerate_count (rev_source l.i-iterator) ≡ 0)
+    × RowMade (view l.initial.self) (view l.self) l.items (iter_rest (enumerate_source (rev_source l.i-iterator))) l.row l.k

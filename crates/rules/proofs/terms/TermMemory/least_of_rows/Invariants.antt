@@ -1,11 +1,10 @@
-use Rattle.std.proofs.Common.{◌≡◌, List, length, take}
-use Rattle.rules.specs.Building.{AllAt, Adds}
-use Rattle.rules.specs.Expanding.{parts}
+use Rattle.std.specs.Slice.Iter.{chunks_exact_rest, chunks_exact_size}
+use Rattle.std.proofs.Common.{◌≡◌}
 use Rattle.rules.specs.Memory.{view}
-use Rattle.rules.specs.Terms.{Term, subterms, least_of}
+use Rattle.rules.proofs.LaidOut.{RowsMade}
 use Rattle.rules.proofs.terms.TermMemory.least_of_rows.Given as goal
 
-abbrev pub invariant-loop-r : goal.invariant-loop-r
-invariant-loop-r l =
-    (length l.places ≡ 64) × ((view l.self).room ≡ (view l.initial.self).room) × ((es : List Term) → AllAt (view l.initial.self) l.items es →
-    Adds (view l.initial.self) (view l.self) (subterms (least_of l.outer (parts l.w l.inner es))) × AllAt (view l.self) (take l.r l.places) (take l.r (parts l.w l.inner es)))
+abbrev pub invariant-loop-row : goal.invariant-loop-row
+invariant-loop-row l =
+    (goal.iterator-loop-row).can_next l.row-iterator × (goal.iterator-loop-row).is_finite l.row-iterator × (chunks_exact_size l.row-iterator ≡ l.w)
+    × RowsMade (view l.initial.self) (view l.self) l.items.items l.places.items (chunks_exact_rest l.row-iterator) l.w l.inner l.outer

@@ -5,4 +5,4 @@ use Rattle.rules.specs.TermKeys.{tree}
 use Rattle.rules.proofs.terms.TermMemory.len.Goals as goal
 
 pub returns : goal.returns
-returns c = c.len.ensures.held c.args.self.now.sound ∙ sym (length_decode tree (held c.args.self.now.interner))
+returns c = c.len.ensures.held ∙ sym (length_decode tree (held c.args.self.now.interner))

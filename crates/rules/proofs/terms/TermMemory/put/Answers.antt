@@ -22,40 +22,32 @@ module _ (m : TermMemory) where
   -- to intern a key is to intern its term
   lifted : (k : TermKey) (r : Result ℕ Full) (ks : List TermKey) → NamesBelow (length (view m).terms) k → Interned (capacity m.interner) (held m.interner) k r ks → Interned (capacity m.interner) (view m).terms (tree (view m).terms k) r (decode tree ks)
   lifted k r ks names interned =
-      decode_interned readable (held m.interner) k (rooted_out _ m.rooted) (held_apart m.interner m.sound) (below k names) _ r ks interned
+      decode_interned readable (held m.interner) k (rooted_out _ m.rooted) (held_apart m.interner) (below k names) _ r ks interned
 
 pub invariant_of-self : goal.invariant_of-self
 invariant_of-self c =
     let m = c.args.self.now in
     record {
-      sound = c.in-Ok.ensures.sound m.sound;
-      rooted = rooted_placed _ _ _ _ _ m.rooted (below m _ (c.if-not-names.ensures.0 refl)) (c.in-Ok.ensures.interned m.sound);
+      rooted = rooted_placed _ _ _ _ _ m.rooted (below m _ (c.if-not-names.ensures.0 refl)) c.in-Ok.ensures.interned;
     }
 
 pub invariant_of-self-in-Err : goal.invariant_of-self-in-Err
 invariant_of-self-in-Err c =
     let m = c.args.self.now in
     record {
-      sound = c.in-Err.ensures.sound m.sound;
-      rooted = subst (λ ks. ∥ Rooted NamesBelow ks ∥₁) (sym (c.in-Err.ensures.interned m.sound).same) m.rooted;
+      rooted = subst (λ ks. ∥ Rooted NamesBelow ks ∥₁) (sym c.in-Err.ensures.interned.same) m.rooted;
     }
 
 pub returns-in-Ok : goal.returns-in-Ok
-returns-in-Ok c = record {
-  made = λ t told.
-      let m = c.args.self.now in
-      makes_known (view m).terms (decode tree (held c.intern.new.self)) (capacity m.interner) (capacity c.intern.new.self) m.overfull c.in-Ok.place (tree (view m).terms c.args.key) t
-      c.if-self.false c.in-Ok.ensures.capacity (told c.if-self.false).1
-      (lifted m c.args.key (Ok c.in-Ok.place) (held c.intern.new.self) (c.if-not-names.ensures.0 refl) (c.in-Ok.ensures.interned m.sound));
-  room = c.in-Ok.ensures.capacity;
-}
+returns-in-Ok c t told =
+    let m = c.args.self.now in
+    makes_known (view m).terms (decode tree (held c.intern.new.self)) (capacity m.interner) (capacity c.intern.new.self) m.overfull c.in-Ok.place (tree (view m).terms c.args.key) t
+    c.if-self.false c.in-Ok.ensures.slots.capacity (told c.if-self.false).1
+    (lifted m c.args.key (Ok c.in-Ok.place) (held c.intern.new.self) (c.if-not-names.ensures.0 refl) c.in-Ok.ensures.interned)
 
 pub returns-in-Err : goal.returns-in-Err
-returns-in-Err c = record {
-  made = λ t told.
-      let m = c.args.self.now in
-      refused_known (view m).terms (decode tree (held c.intern.new.self)) (capacity m.interner) (capacity c.intern.new.self) m.overfull 0 (tree (view m).terms c.args.key) t
-      c.if-self.false c.in-Err.ensures.capacity (told c.if-self.false).1 (memory_apart m)
-      (lifted m c.args.key (Err c.in-Err.field-0) (held c.intern.new.self) (c.if-not-names.ensures.0 refl) (c.in-Err.ensures.interned m.sound));
-  room = c.in-Err.ensures.capacity;
-}
+returns-in-Err c t told =
+    let m = c.args.self.now in
+    refused_known (view m).terms (decode tree (held c.intern.new.self)) (capacity m.interner) (capacity c.intern.new.self) m.overfull 0 (tree (view m).terms c.args.key) t
+    c.if-self.false c.in-Err.ensures.slots.capacity (told c.if-self.false).1 (memory_apart m)
+    (lifted m c.args.key (Err c.in-Err.field-0) (held c.intern.new.self) (c.if-not-names.ensures.0 refl) c.in-Err.ensures.interned)

@@ -4,25 +4,25 @@ use Rattle.std.proofs.Common.{◌≡◌, ℕ, ◌+◌, ◌<◌, min, Bool, false
 use Rattle.std.proofs.lemmas.List.{get_or_default, get_or-take}
 use Rattle.std.proofs.lemmas.Bool.{cases_order, false≢true}
 use Rattle.interning.specs.Distinct.{◌∈◌, Within, NoRepeat}
-use Rattle.interning.specs.Interned.{Refused}
 use Rattle.interning.specs.Model.{held}
 use Rattle.interning.specs.Places.{Kept, Stands}
 use Rattle.interning.proofs.Decode.{length_decode}
 use Rattle.interning.proofs.Distinct.{no_longer}
-use Rattle.interning.proofs.Members.{absent_not_in, in_either, stands_in}
+use Rattle.interning.proofs.Members.{in_either, stands_in}
 use Rattle.memos.specs.declared.diagram.Diagram.{Diagram}
 use Rattle.memos.specs.declared.diagram.View.{View}
 use Rattle.memos.specs.declared.diagram.View.TheVariants.{None as Never, Always, Node as Place}
 use Rattle.memos.specs.Diagrams.{seen}
 use Rattle.families.specs.Trees.{Tree, none, build}
 use Rattle.families.specs.Good.{Good, Proper}
+use Rattle.families.specs.Outcomes.{made}
 use Rattle.diagrams.specs.declared.node.Node.{Node}
 use Rattle.diagrams.specs.declared.nodes.NodeMemory.{NodeMemory}
 use Rattle.diagrams.specs.NodeKeys.{Below, tree_of, tree_at, node_tree}
 use Rattle.diagrams.specs.Memory.{trees, places}
-use Rattle.diagrams.specs.Building.{Denotes, Fitting, Placed}
+use Rattle.diagrams.specs.Building.{Denotes, Fitting, Lacks, Made}
 use Rattle.diagrams.specs.Collecting.{Marked, Marks, ClosedFrom, Moved, moved_as}
-use Rattle.diagrams.proofs.Built.{build_node}
+use Rattle.diagrams.proofs.Built.{build_node, made_one}
 use Rattle.diagrams.proofs.Marks.{apart_ne}
 use Rattle.diagrams.proofs.Memories.{memory_fits, memory_proper, place_names, place_tree}
 
@@ -102,15 +102,18 @@ module _ (m : NodeMemory) (p : ℕ) (k : Node) (stands : Stands (held m.interner
     good = subst (λ t. Good 1 (build k.member t (tree_at ts' (moved_as ms k.high (seen k.high))))) (sym low_moved.is) (subst (λ t. Good 1 (build k.member low_tree t)) (sym high_moved.is) good);
   }
 
-  module _ (d : Diagram) (ts'' : List Tree) (placed : Placed ts' (build k.member low_tree high_tree) d ts'') (l : p < length ms) where
+  one : made k.member low_tree high_tree ≡ build k.member low_tree high_tree ∷ []
+  one = made_one k.member low_tree high_tree proper.good.some
+
+  module _ (d : Diagram) (ts'' : List Tree) (joined : Made ts' (build k.member low_tree high_tree) (made k.member low_tree high_tree) d ts'') (l : p < length ms) where
     moved_there : (q : ℕ) (e : Diagram) → q < p + 1 → Marked bs q → Denotes ts'' (get_or (set ms p d) q e) (get_or (trees m) q none)
     moved_there q e h mk =
         ⊎_elim (λ (s : q ≡ p).
         subst (λ j. Denotes ts'' (get_or (set ms p d) j e) (get_or (trees m) j none)) (sym s)
-        (subst (λ x. Denotes ts'' x (get_or (trees m) p none)) (sym (get_or-set_same ms p d e l)) (subst (Denotes ts'' d) built placed.denotes)))
+        (subst (λ x. Denotes ts'' x (get_or (trees m) p none)) (sym (get_or-set_same ms p d e l)) (subst (Denotes ts'' d) built joined.denotes)))
         (λ o.
         let below : q < p = ⊎_elim (λ (a : q < p). a) (λ (z : p < q). absurd (omega arith)) o in
-        subst (λ x. Denotes ts'' x (get_or (trees m) q none)) (sym (get_or-set_other ms p q d e (apart_ne q p o))) (denotes_kept ts' ts'' placed.kept (get_or ms q e) (get_or (trees m) q none) (moved.there q e below mk)))
+        subst (λ x. Denotes ts'' x (get_or (trees m) q none)) (sym (get_or-set_other ms p q d e (apart_ne q p o))) (denotes_kept ts' ts'' joined.kept (get_or ms q e) (get_or (trees m) q none) (moved.there q e below mk)))
         (cases_order q p)
 
     abbrev From : Tree → Type 0
@@ -121,11 +124,8 @@ module _ (m : NodeMemory) (p : ℕ) (k : Node) (stands : Stands (held m.interner
 
     moved_only : (t : Tree) → t ∈ ts'' → From t
     moved_only t i =
-        ⊎_elim (λ (e : ts'' ≡ ts'). old_from t (subst (λ xs. t ∈ xs) e i))
-        (λ (e : ts'' ≡ ts' ++ (build k.member low_tree high_tree ∷ [])).
         ⊎_elim (λ (a : t ∈ ts'). old_from t a) (⊎_elim (λ (b : t ≡ build k.member low_tree high_tree). (p, omega arith, marked, sym (b ∙ built))) (λ (f : ⊥). absurd f))
-        (in_either ts' (build k.member low_tree high_tree ∷ []) t (subst (λ xs. t ∈ xs) e i)))
-        placed.change
+        (in_either ts' (build k.member low_tree high_tree ∷ []) t (subst (λ us. t ∈ (ts' ++ us)) one (joined.only t i)))
 
     pub moved_placed : Moved (trees m) bs (p + 1) ts'' (set ms p d)
     moved_placed = record { there = moved_there; only = moved_only }
@@ -138,7 +138,8 @@ module _ (m : NodeMemory) (p : ℕ) (k : Node) (stands : Stands (held m.interner
   all_within t (inr i) = let r = moved.only t i in subst (λ x. x ∈ trees m) r.3 (tree_in r.0 (omega (arith, r.1, held_below)))
 
   -- the memory is not full
-  pub never_full : (cap : ℕ) (ts'' : List Tree) → NoRepeat ts' → cap ≡ places m → Refused cap ts' (build k.member low_tree high_tree) ts'' → ⊥
-  never_full cap ts'' once same refused =
-      let few = no_longer (build k.member low_tree high_tree ∷ ts') (trees m) (absent_not_in ts' _ refused.absent, once) all_within in
-      omega (arith, refused.full, memory_fits m)
+  pub never_full : (cap : ℕ) (ts'' : List Tree) → NoRepeat ts' → cap ≡ places m → Lacks cap ts' (made k.member low_tree high_tree) ts'' → ⊥
+  never_full cap ts'' once same lacks =
+      let is : lacks.missing ≡ build k.member low_tree high_tree = ⊎_elim (λ e. e) (λ (f : ⊥). absurd f) (subst (λ us. lacks.missing ∈ us) one lacks.among) in
+      let few = no_longer (build k.member low_tree high_tree ∷ ts') (trees m) ((λ i. lacks.absent (subst (λ t. t ∈ ts') (sym is) i)), once) all_within in
+      omega (arith, lacks.full, memory_fits m)

@@ -2,18 +2,18 @@
 use Rattle.std.proofs.Common.{◌≡◌, ℕ, ◌+◌, ◌<◌, Bool, List, length, get_or, take, set, sym, ap, ◌∙◌, subst, arith}
 use Rattle.interning.specs.Decode.{decode}
 use Rattle.interning.specs.Distinct.{NoRepeat}
-use Rattle.interning.specs.Interned.{Refused}
 use Rattle.interning.specs.Model.{held}
 use Rattle.interning.specs.Places.{Stands}
 use Rattle.interning.proofs.Decode.{length_decode}
 use Rattle.memos.specs.declared.diagram.Diagram.{Diagram}
 use Rattle.memos.specs.Diagrams.{seen}
 use Rattle.families.specs.Trees.{Tree, build}
+use Rattle.families.specs.Outcomes.{made}
 use Rattle.diagrams.specs.declared.node.Node.{Node}
 use Rattle.diagrams.specs.declared.nodes.NodeMemory.{NodeMemory}
 use Rattle.diagrams.specs.NodeKeys.{node_tree}
 use Rattle.diagrams.specs.Memory.{trees, places}
-use Rattle.diagrams.specs.Building.{Denotes, Fitting, Placed}
+use Rattle.diagrams.specs.Building.{Denotes, Fitting, Lacks, Made}
 use Rattle.diagrams.specs.Collecting.{Marked, ClosedFrom, Moved, moved_as, trees_of}
 use Rattle.diagrams.proofs.Moves.{stands_copied, low_tree, high_tree, low_moved, high_moved, fitting, moved_placed, never_full}
 
@@ -45,10 +45,10 @@ module _ (m : NodeMemory) (n : ℕ) (nodes : List Node) (all : n ≡ length (tre
       subst (λ x. Fitting ts' (get_or nodes p e).member x high) (sym is-low)
       (subst (λ x. Fitting ts' (get_or nodes p e).member (moved_as ms (get_or nodes p e).low (seen (get_or nodes p e).low)) x) (sym is-high) (fitting m p (get_or nodes p e) stands bs closed marked ts' ms old))
 
-  pub refill_placed : (d : Diagram) (ts'' : List Tree) → ((l h : Tree) → Denotes ts' low l → Denotes ts' high h → Placed ts' (build (get_or nodes p e).member l h) d ts'') → p < length ms → Moved (trees_of n nodes) bs (p + 1) ts'' (set ms p d)
-  refill_placed d ts'' placed room =
+  pub refill_placed : (d : Diagram) (ts'' : List Tree) → ((l h : Tree) → Denotes ts' low l → Denotes ts' high h → Made ts' (build (get_or nodes p e).member l h) (made (get_or nodes p e).member l h) d ts'') → p < length ms → Moved (trees_of n nodes) bs (p + 1) ts'' (set ms p d)
+  refill_placed d ts'' joined room =
       subst (λ ts. Moved ts bs (p + 1) ts'' (set ms p d)) (sym (trees_copied m n nodes all copied))
-      (moved_placed m p (get_or nodes p e) stands bs closed marked ts' ms old d ts'' (placed low_of high_of at_low at_high) room)
+      (moved_placed m p (get_or nodes p e) stands bs closed marked ts' ms old d ts'' (joined low_of high_of at_low at_high) room)
 
-  pub refill_never : (cap : ℕ) (ts'' : List Tree) → NoRepeat ts' → cap ≡ places m → ((l h : Tree) → Denotes ts' low l → Denotes ts' high h → Refused cap ts' (build (get_or nodes p e).member l h) ts'') → ⊥
-  refill_never cap ts'' once same refused = never_full m p (get_or nodes p e) stands bs closed marked ts' ms old cap ts'' once same (refused low_of high_of at_low at_high)
+  pub refill_never : (cap : ℕ) (ts'' : List Tree) → NoRepeat ts' → cap ≡ places m → ((l h : Tree) → Denotes ts' low l → Denotes ts' high h → Lacks cap ts' (made (get_or nodes p e).member l h) ts'') → ⊥
+  refill_never cap ts'' once same lacks = never_full m p (get_or nodes p e) stands bs closed marked ts' ms old cap ts'' once same (lacks low_of high_of at_low at_high)

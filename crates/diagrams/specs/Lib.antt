@@ -8,5 +8,6 @@ pub mod Avoiding
 pub mod Asking
 pub mod Frames
 pub mod Stacks
+pub mod Walking
 pub mod Solving
 pub mod NodeLaws

@@ -11,6 +11,7 @@ use crate::node::Node;
 use interning::interner::Interner;
 
 mod avoid;
+mod branch;
 mod build;
 mod collect;
 mod count;
@@ -18,6 +19,7 @@ mod list;
 mod mark;
 mod open;
 mod read;
+mod single;
 
 // The nodes of all diagrams of a bench. Each place has a name, and each tree is that of a family.
 #[derive(Drop)]

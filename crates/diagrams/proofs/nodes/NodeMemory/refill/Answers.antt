@@ -22,12 +22,12 @@ pub loop-place-preserved : goal.loop-place-preserved
 loop-place-preserved c = (
   c.build.ensures.places ∙ c.loop-place.invariant.0,
   c.build.ensures.named ∙ c.loop-place.invariant.1,
-  refill_placed c.args.self.now c.len-len.result c.copy.new.nodes c.len-len.ensures c.copy.ensures c.args.marks.now c.requires.closed c.loop-place.place _ c.loop-place-test.true c.if-not-marks-place.false (trees c.loop-place.self) c.loop-place.moves c.loop-place.invariant.2 c.moved-low.result c.moved-high.result c.moved-low.ensures c.moved-high.ensures c.in-Ok.diagram (trees c.build.new.self) c.in-Ok.ensures.built (omega (arith, c.requires.moves, c.loop-place.auto.moves)),
+  refill_placed c.args.self.now c.len-len.result c.copy.new.nodes c.len-len.ensures c.copy.ensures c.args.marks.now c.requires.closed c.loop-place.place _ c.loop-place-test.true c.if-not-marks-place.false (trees c.loop-place.self) c.loop-place.moves c.loop-place.invariant.2 c.moved-low.result c.moved-high.result c.moved-low.ensures c.moved-high.ensures c.in-Ok.diagram (trees c.build.new.self) c.in-Ok.ensures.joins (omega (arith, c.requires.moves, c.loop-place.auto.moves)),
 )
 
 pub returns-in-Err : goal.returns-in-Err
 returns-in-Err c =
-    absurd (refill_never c.args.self.now c.len-len.result c.copy.new.nodes c.len-len.ensures c.copy.ensures c.args.marks.now c.requires.closed c.loop-place.place _ c.loop-place-test.true c.if-not-marks-place.false (trees c.loop-place.self) c.loop-place.moves c.loop-place.invariant.2 c.moved-low.result c.moved-high.result c.moved-low.ensures c.moved-high.ensures (places c.loop-place.self) (trees c.build.new.self) (apart_once _ (memory_apart c.loop-place.self)) (c.loop-place.invariant.0 ∙ c.clear.ensures.places) c.in-Err.ensures.built)
+    absurd (refill_never c.args.self.now c.len-len.result c.copy.new.nodes c.len-len.ensures c.copy.ensures c.args.marks.now c.requires.closed c.loop-place.place _ c.loop-place-test.true c.if-not-marks-place.false (trees c.loop-place.self) c.loop-place.moves c.loop-place.invariant.2 c.moved-low.result c.moved-high.result c.moved-low.ensures c.moved-high.ensures (places c.loop-place.self) (trees c.build.new.self) (apart_once _ (memory_apart c.loop-place.self)) (c.loop-place.invariant.0 ∙ c.clear.ensures.places) c.in-Err.ensures.joins)
 
 pub returns : goal.returns
 returns c =

@@ -1,5 +1,5 @@
 use Rattle.std.proofs.Common.{min, ◌∙◌}
-use Rattle.diagrams.proofs.frames.split.Goals as goal
+use Rattle.diagrams.proofs.frames.begins.split.Goals as goal
 
 pub returns : goal.returns
 returns c s t x y = record {

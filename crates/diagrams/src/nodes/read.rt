@@ -35,24 +35,14 @@ impl<'a> NodeMemory<'a> {
         requires { place < length (trees self.now) }
         ensures { Stands (held self.now.interner) result place }
     {
-        match self.interner.key_at(place) {
-            Some(node) => node,
-            None => Node {
-                member: 0,
-                low: Diagram::none(),
-                high: Diagram::none(),
-            },
-        }
+        self.interner.key_at(place).unwrap()
     }
 
     // The top member of a diagram, and 49 where there is none.
     pub fn top(&self, diagram: Diagram) -> u8
         ensures { (t : Tree) → Denotes (trees self.now) diagram t → result ≡ top t }
     {
-        match self.node(diagram) {
-            Some(node) => node.member,
-            None => 49,
-        }
+        self.node(diagram).map_or(49, |node| node.member)
     }
 
     // Low and high where the member is the top one, else the diagram itself and none.
@@ -60,22 +50,15 @@ impl<'a> NodeMemory<'a> {
         ensures low { (t : Tree) → Denotes (trees self.now) diagram t → Denotes (trees self.now) result.low (low_at member t) }
         ensures high { (t : Tree) → Denotes (trees self.now) diagram t → Denotes (trees self.now) result.high (high_at member t) }
     {
-        let whole = Parts {
-            low: diagram,
-            high: Diagram::none(),
-        };
         match self.node(diagram) {
-            Some(node) => {
-                if node.member == member {
-                    Parts {
-                        low: node.low,
-                        high: node.high,
-                    }
-                } else {
-                    whole
-                }
-            }
-            None => whole,
+            Some(node) if node.member == member => Parts {
+                low: node.low,
+                high: node.high,
+            },
+            _ => Parts {
+                low: diagram,
+                high: Diagram::none(),
+            },
         }
     }
 

@@ -2,8 +2,10 @@
 use Rattle.std.specs.Prelude.{◌≡◌, ℕ, ◌≤◌, true, cond, ◌||◌, List, [], ◌∷◌, ◌++◌, length, Some, None, Ok, Err, Option, Result}
 use Rattle.interning.specs.declared.interner.Full.{Full}
 use Rattle.interning.specs.Distinct.{◌∈◌, Within}
-use Rattle.interning.specs.Places.{Kept}
+use Rattle.interning.specs.Places.{Kept, Read}
 use Rattle.memos.specs.declared.diagram.Diagram.{Diagram}
+use Rattle.memos.specs.declared.diagram.View.{View}
+use Rattle.memos.specs.declared.diagram.View.TheVariants.{None as Never, Always, Node as Place}
 use Rattle.memos.specs.Diagrams.{seen}
 use Rattle.families.specs.Groups.{is_member}
 use Rattle.families.specs.Trees.{Tree, none, alone, build, is_none, is_always}
@@ -54,6 +56,12 @@ single_tree v = cond (is_member v) (alone v) none
 -- the nodes in it: one, or none
 abbrev pub single_made : ℕ → List Tree
 single_made v = cond (is_member v) (alone v ∷ []) []
+
+-- what stands at the place that a name has, or none where it has none or is past the end
+abbrev pub NamedNode : List Node → View → Option Node → Type 0
+NamedNode ks Never o = o ≡ None
+NamedNode ks Always o = o ≡ None
+NamedNode ks (Place p) o = Read ks p o
 
 -- the node of the tree t, over places that are held, or none where t is none or always
 abbrev pub Opened : List Tree → Tree → Option Node → Type 0

@@ -90,11 +90,8 @@ impl<'a> NodeMemory<'a> {
         match diagram.view() {
             View::None => None,
             View::Always => Some(0),
-            View::Node(place) => {
-                if place >= self.len() {
-                    return None;
-                }
-                let node = self.key(place);
+            View::Node(_) => {
+                let node = self.node(diagram)?;
                 let weight = bit(u32::from(node.member))?;
                 if avoids(group, weight) && finds(cells, node.high) {
                     let rest = self.descend(node.high, group, cells)?;

@@ -3,9 +3,10 @@
 ghost use Rattle.std.specs.Prelude.{◌≡◌, ◌<◌, length, Decides};
 ghost use Rattle.interning.specs.Model.{held};
 ghost use Rattle.interning.specs.Places.{Stands};
+ghost use Rattle.memos.specs.Diagrams.{seen};
 ghost use Rattle.families.specs.Trees.{Tree};
 ghost use Rattle.families.specs.Questions.{top, low_at, high_at};
-ghost use Rattle.diagrams.specs.Building.{Denotes, Opened};
+ghost use Rattle.diagrams.specs.Building.{Denotes, NamedNode, Opened};
 ghost use Rattle.diagrams.specs.Memory.{trees};
 
 use super::NodeMemory;
@@ -22,7 +23,8 @@ pub struct Parts {
 impl<'a> NodeMemory<'a> {
     // The node that a diagram names, or none where it is none or always.
     pub fn node(&self, diagram: Diagram) -> Option<Node>
-        ensures { (t : Tree) → Denotes (trees self.now) diagram t → Opened (trees self.now) t result }
+        ensures named { NamedNode (held self.now.interner) (seen diagram) result }
+        ensures opened { (t : Tree) → Denotes (trees self.now) diagram t → Opened (trees self.now) t result }
     {
         match diagram.view() {
             View::Node(place) => self.interner.key_at(place),

@@ -1,19 +1,17 @@
 -- The first group that shares no member with a given one: of a node it is one with its member, if that is left out and high has any, or else one without.
-use Rattle.std.proofs.Common.{◌≡◌, ℕ, ◌+◌, ◌^◌, ◌<◌, Bool, true, false, cond, not, ◌&&◌, ◌||◌, eqb, ◌≢◌, ◌↔◌, List, [], ◌∷◌, ◌++◌, map, length, get_or, set, Some, None, Option, sym, refl, ap, ◌∙◌, subst, arith, get_or-set_other, get_or-set_same, below_more}
+use Rattle.std.proofs.Common.{◌≡◌, ℕ, ◌+◌, ◌^◌, ◌<◌, Bool, true, false, cond, not, ◌&&◌, ◌||◌, eqb, ◌↔◌, List, [], ◌∷◌, ◌++◌, map, length, get_or, Some, None, Option, sym, refl, ap, ◌∙◌, arith}
 use lib.Bits.{bit_and, and_le_r}
 use Rattle.std.specs.List.{AllByRecursion}
 use Rattle.std.proofs.lemmas.Bool.{eqb-true, eq-eqb, and_from, and_parts, both_ways}
 use Rattle.interning.specs.Model.{held}
 use Rattle.interning.specs.Places.{Stands}
-use Rattle.interning.proofs.Decode.{length_decode}
 use Rattle.memos.specs.declared.diagram.Diagram.{Diagram}
-use Rattle.memos.specs.declared.diagram.View.{View}
-use Rattle.memos.specs.declared.diagram.View.TheVariants.{None as Never, Always, Node as Place}
+use Rattle.memos.specs.declared.diagram.View.TheVariants.{Node as Place}
 use Rattle.memos.specs.Diagrams.{seen}
 use Rattle.families.specs.Sets.{Meet}
 use Rattle.families.specs.Groups.{Member, holds, is_member, weight}
 use Rattle.families.specs.Trees.{Tree, none, node, groups}
-use Rattle.families.specs.Good.{Good, Proper}
+use Rattle.families.specs.Good.{Good}
 use Rattle.families.proofs.Bools.{same_tests, or_false, refute}
 use Rattle.families.proofs.Common.{holds_and}
 use Rattle.families.proofs.Listing.{groups_below}
@@ -21,12 +19,14 @@ use Rattle.families.proofs.Numbers.{holds_same}
 use Rattle.families.proofs.Weights.{holds_add, holds_zero, is_member_lem, weight_of, weight_pos, weight_step}
 use Rattle.diagrams.specs.declared.node.Node.{Node}
 use Rattle.diagrams.specs.declared.nodes.NodeMemory.{NodeMemory}
-use Rattle.diagrams.specs.NodeKeys.{Below, tree_of, tree_at, node_tree}
+use Rattle.diagrams.specs.NodeKeys.{tree_at}
 use Rattle.diagrams.specs.Memory.{trees}
 use Rattle.diagrams.specs.Building.{Denotes}
-use Rattle.diagrams.specs.Avoiding.{Told, apart, finds_at, first_avoiding, found}
+use Rattle.diagrams.specs.Avoiding.{apart, first_avoiding, found, has_avoiding}
+use Rattle.diagrams.specs.Folding.{Folded, value_at}
 use Rattle.diagrams.proofs.Firsts.{denoted, or_else, plus}
-use Rattle.diagrams.proofs.Memories.{memory_proper, place_names, place_tree, place_within}
+use Rattle.diagrams.proofs.Folds.{node_good, value_right}
+use Rattle.diagrams.proofs.Memories.{place_tree, place_within}
 
 pub not_not : (x y : Bool) → x ≡ not y → not x ≡ y
 not_not x true e = ap not e
@@ -136,53 +136,31 @@ pick_low true w (Some x) l e = absurd (both_ways true e refl)
 pick_low true w None l e = refl
 pick_low false w h l e = refl
 
--- what the cells tell of a name is right where it is right for the places before
-finds_right : (g : ℕ) (ts : List Tree) (n : ℕ) (bs : List Bool) → Told g ts n bs → (v : View) → Below n v → finds_at bs v ≡ found (first_avoiding g (groups (tree_of ts v)))
-finds_right g ts n bs told Never b = refl
-finds_right g ts n bs told Always b = ap (λ a. found (cond a (Some 0) None)) (sym (apart_zero g))
-finds_right g ts n bs told (Place p) b = told p b
-
-pub told_more : (g : ℕ) (ts : List Tree) (n : ℕ) (bs : List Bool) (b : Bool) → n < length bs → Told g ts n bs → b ≡ found (first_avoiding g (groups (get_or ts n none))) → Told g ts (n + 1) (set bs n b)
-told_more g ts n bs b within told is =
-    below_more _ _
-    (λ k h. let ne : k ≢ n = omega arith in rw get_or-set_other (told k h))
-    (rw get_or-set_same is)
+-- whether a family's tree has such a group, from whether its two parts have
+pub node_found : (g v : ℕ) (l h : Tree) → Good 1 (node v l h) → (has_avoiding g l || ((is_member v && apart g (weight v)) && has_avoiding g h)) ≡ has_avoiding g (node v l h)
+node_found g v l h good =
+    ap (λ b. has_avoiding g l || ((b && apart g (weight v)) && has_avoiding g h)) (is_member_lem v good.fits.1)
+    ∙ found_parts (apart g (weight v)) (weight v) (first_avoiding g (groups h)) (first_avoiding g (groups l))
+    ∙ ap found (sym (first_node g v l h good.fits.1 (groups_below v h good.high)))
 
 module _ (m : NodeMemory) (p : ℕ) (k : Node) (stands : Stands (held m.interner) k p) (g : ℕ) where
-  node_good : Good 1 (node_tree (trees m) k)
-  node_good =
-      let within : p < length (trees m) = omega (arith, stands.within, length_decode node_tree (held m.interner)) in
-      (subst Proper (place_tree m p k none stands) (memory_proper m p none within)).good
-
   member_fits : Member k.member
-  member_fits = node_good.fits.1
+  member_fits = (node_good m p k stands).fits.1
 
   high_below : AllByRecursion (λ n. n < weight k.member) (groups (tree_at (trees m) k.high))
-  high_below = groups_below k.member (tree_at (trees m) k.high) node_good.high
+  high_below = groups_below k.member (tree_at (trees m) k.high) (node_good m p k stands).high
 
   place_first : first_avoiding g (groups (get_or (trees m) p none)) ≡ or_else (with_member (apart g (weight k.member)) (weight k.member) (first_avoiding g (groups (tree_at (trees m) k.high)))) (first_avoiding g (groups (tree_at (trees m) k.low)))
   place_first =
       ap (λ t. first_avoiding g (groups t)) (place_tree m p k none stands)
       ∙ first_node g k.member (tree_at (trees m) k.low) (tree_at (trees m) k.high) member_fits high_below
 
-  -- what is told of a node, from what is told of its parts
-  pub node_right : (bs : List Bool) → Told g (trees m) p bs → (finds_at bs (seen k.low) || ((is_member k.member && apart g (weight k.member)) && finds_at bs (seen k.high))) ≡ found (first_avoiding g (groups (get_or (trees m) p none)))
-  node_right bs told =
-      let names = place_names m p k stands in
-      let low = finds_right g (trees m) p bs told (seen k.low) names.0 in
-      let high = finds_right g (trees m) p bs told (seen k.high) names.1 in
-      let a = apart g (weight k.member) in
-      ap (λ b. finds_at bs (seen k.low) || ((b && a) && finds_at bs (seen k.high))) (is_member_lem k.member member_fits)
-      ∙ (λ i. low i || (a && high i))
-      ∙ found_parts a (weight k.member) (first_avoiding g (groups (tree_at (trees m) k.high))) (first_avoiding g (groups (tree_at (trees m) k.low)))
-      ∙ ap found (sym place_first)
-
-  module _ (bs : List Bool) (told : Told g (trees m) (length (trees m)) bs) where
-    high_right : finds_at bs (seen k.high) ≡ found (first_avoiding g (groups (tree_at (trees m) k.high)))
-    high_right = finds_right g (trees m) (length (trees m)) bs told (seen k.high) (place_within m p k stands).1
+  module _ (bs : List Bool) (told : Folded (has_avoiding g) (trees m) (length (trees m)) bs) where
+    high_right : value_at (has_avoiding g) bs (seen k.high) ≡ found (first_avoiding g (groups (tree_at (trees m) k.high)))
+    high_right = value_right (has_avoiding g) (trees m) (length (trees m)) bs told (seen k.high) (place_within m p k stands).1
 
     -- where the cells tell of a group on the high side, there is one
-    pub high_some : (b : Bool) (o : Option ℕ) → b ≡ finds_at bs (seen k.high) → b ≡ true → o ≡ first_avoiding g (groups (tree_at (trees m) k.high)) → o ≡ None → ⊥
+    pub high_some : (b : Bool) (o : Option ℕ) → b ≡ value_at (has_avoiding g) bs (seen k.high) → b ≡ true → o ≡ first_avoiding g (groups (tree_at (trees m) k.high)) → o ≡ None → ⊥
     high_some b o tells passes is nothing = both_ways b (tells ∙ high_right ∙ ap found (sym is ∙ nothing)) passes
 
   -- a group of the high side with the member fits
@@ -210,7 +188,7 @@ module _ (m : NodeMemory) (p : ℕ) (k : Node) (stands : Stands (held m.interner
         ∙ first_parts
 
     -- and where high has none
-    pub first_low : (bs : List Bool) (b : Bool) (o : Option ℕ) → Told g (trees m) (length (trees m)) bs → b ≡ finds_at bs (seen k.high) → b ≡ false → o ≡ first_avoiding g (groups (tree_at (trees m) k.low)) → o ≡ first_avoiding g (groups t)
+    pub first_low : (bs : List Bool) (b : Bool) (o : Option ℕ) → Folded (has_avoiding g) (trees m) (length (trees m)) bs → b ≡ value_at (has_avoiding g) bs (seen k.high) → b ≡ false → o ≡ first_avoiding g (groups (tree_at (trees m) k.low)) → o ≡ first_avoiding g (groups t)
     first_low bs b o told tells fails low =
         low
         ∙ pick_low (apart g (weight k.member)) (weight k.member) (first_avoiding g (groups (tree_at (trees m) k.high))) (first_avoiding g (groups (tree_at (trees m) k.low))) (sym (high_right bs told) ∙ sym tells ∙ fails)

@@ -3,6 +3,7 @@ pub mod GoodTrees
 pub mod Memories
 pub mod Built
 pub mod Opened
+pub mod Folds
 pub mod Counts
 pub mod Reached
 pub mod Marks

@@ -1,6 +1,7 @@
 pub mod NodeKeys
 pub mod Memory
 pub mod Building
+pub mod Folding
 pub mod Counting
 pub mod Collecting
 pub mod Listing

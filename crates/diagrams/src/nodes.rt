@@ -15,6 +15,7 @@ mod branch;
 mod build;
 mod collect;
 mod count;
+mod fold;
 mod list;
 mod mark;
 mod open;

@@ -1,4 +1,4 @@
-use Rattle.std.proofs.Common.{◌≡◌, sym, refl, subst}
+use Rattle.std.proofs.Common.{subst}
 use Rattle.interning.specs.Model.{held}
 use Rattle.memos.specs.Diagrams.{seen}
 use Rattle.diagrams.specs.Building.{NamedNode}

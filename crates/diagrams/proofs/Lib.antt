@@ -8,7 +8,6 @@ pub mod Counts
 pub mod Reached
 pub mod Marks
 pub mod Moves
-pub mod Refills
 pub mod Collects
 pub mod Firsts
 pub mod Pages

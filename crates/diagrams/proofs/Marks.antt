@@ -1,6 +1,7 @@
 -- Marks: to mark a name adds one mark, and keeps what is marked reached and closed under parts.
-use Rattle.std.proofs.Common.{◌≡◌, ℕ, ◌+◌, ◌<◌, ◌≤◌, Bool, true, false, ◌≢◌, ◌⊎◌, List, length, get_or, set, sym, ap, ◌∙◌, subst, inl, inr, ⊎_elim, arith, length-set, get_or-set_other, get_or-set_same}
-use Rattle.std.proofs.lemmas.List.{get_or_default, get_or_past}
+use Rattle.std.proofs.Common.{◌≡◌, ℕ, ◌+◌, ◌<◌, ◌≤◌, Bool, true, false, ◌≢◌, ◌⊎◌, List, length, get_or, set, replicate, sym, ap, ◌∙◌, subst, inl, inr, ⊎_elim, arith, length-set, get_or-set_other, get_or-set_same}
+use Rattle.std.proofs.Math.ListN.{get_or-map}
+use Rattle.std.proofs.lemmas.List.{get_or_default, get_or_past, get_or-replicate, length-map, length-replicate}
 use Rattle.std.proofs.lemmas.Bool.{cases_order, cases_lt, false≢true}
 use Rattle.interning.specs.Distinct.{◌∈◌, Within}
 use Rattle.interning.specs.Model.{held}
@@ -11,16 +12,30 @@ use Rattle.memos.specs.declared.diagram.View.TheVariants.{None as Never, Always,
 use Rattle.memos.specs.Diagrams.{seen}
 use Rattle.families.specs.Trees.{Tree, none}
 use Rattle.diagrams.specs.declared.node.Node.{Node}
+use Rattle.diagrams.specs.declared.nodes.Cell.{Cell}
 use Rattle.diagrams.specs.declared.nodes.NodeMemory.{NodeMemory}
 use Rattle.diagrams.specs.NodeKeys.{Below, tree_of, tree_at, node_tree}
 use Rattle.diagrams.specs.Memory.{trees}
-use Rattle.diagrams.specs.Collecting.{nodes_in, reached, Marked, Marks, marked_by, Sparing, Covers, ClosedFrom}
+use Rattle.diagrams.specs.Collecting.{nodes_in, reached, Marked, Marks, blank, marked_by, marks, copies, Sparing, Covers, ClosedFrom, Copied}
 use Rattle.diagrams.proofs.Memories.{memory_each, place_names, place_tree}
 use Rattle.diagrams.proofs.NodeTrees.{Nodal, below_rise}
 use Rattle.diagrams.proofs.Reached.{node_itself, low_inside, high_inside, reached_again, reached_root}
 
 marked_within : (bs : List Bool) (p : ℕ) → Marked bs p → p < length bs
 marked_within bs p m = ⊎_elim (λ (l : p < length bs). l) (λ (h : length bs ≤ p). absurd (false≢true (sym (get_or_past bs p false h) ∙ m))) (cases_lt p (length bs))
+
+pub mark_at : (cs : List Cell) (p : ℕ) → get_or (marks cs) p false ≡ (get_or cs p blank).marked
+mark_at cs p = get_or-map (λ c. c.marked) cs p blank
+
+-- cells of which nothing is kept have no marks
+pub no_marks : (n p : ℕ) → get_or (marks (replicate n blank)) p false ≡ false
+no_marks n p =
+    mark_at (replicate n blank) p
+    ∙ ap (λ c. c.marked)
+    (⊎_elim (λ (l : p < n). get_or-replicate n p blank blank l) (λ (h : n ≤ p). get_or_past (replicate n blank) p blank (simp length-replicate h)) (cases_lt p n))
+
+pub past_unmarked : (bs : List Bool) (n p : ℕ) → get_or bs n false ≡ false → n ≤ p → Marked bs p → n < p
+past_unmarked bs n p not low m = ⊎_elim (λ (l : p < n + 1). let e : p ≡ n = omega arith in absurd (false≢true (sym not ∙ ap (λ q. get_or bs q false) (sym e) ∙ m))) (λ (h : n + 1 ≤ p). omega arith) (cases_lt p (n + 1))
 
 pub apart_ne : (p q : ℕ) → (p < q) ⊎ (q < p) → p ≢ q
 apart_ne p q (inl l) e = omega arith
@@ -114,6 +129,19 @@ module _ (m : NodeMemory) (p : ℕ) (k : Node) (stands : Stands (held m.interner
         marks_grow _ (seen k.high) _ (marks_grow bs (seen k.low) _ old.1),
       ))
       (cases_order q p)
+
+  -- the node at p is copied, and those above p were before
+  pub copied_parts : (n : ℕ) (cs cs' : List Cell) → n ≤ p + 1 → p < length cs → bs ≡ marks cs → marks cs' ≡ both_marked → copies cs' ≡ set (copies cs) p k → Copied (held m.interner) n cs → Copied (held m.interner) p cs'
+  copied_parts n cs cs' few l old new same copied q d low within h =
+      let ks = held m.interner in
+      let room : p < length (copies cs) = simp length-map l in
+      subst (λ xs. Stands ks (get_or xs q d) q) (sym same)
+      (⊎_elim (λ (e : q ≡ p). subst (λ j. Stands ks (get_or (set (copies cs) p k) j d) j) (sym e) (subst (λ x. Stands ks x p) (sym (get_or-set_same (copies cs) p k d room)) stands))
+      (λ o.
+      let above : p < q = ⊎_elim (λ (z : q < p). absurd (omega arith)) (λ (a : p < q). a) o in
+      let was : Marked (marks cs) q = subst (λ xs. Marked xs q) old (marked_above q above (subst (λ xs. Marked xs q) new h)) in
+      subst (λ x. Stands ks x q) (sym (get_or-set_other (copies cs) p q k d (apart_ne q p o))) (copied q d (omega arith) within was))
+      (cases_order q p))
 
 -- the next root is marked
 pub roots_more : (ts : List Tree) (rs : List Diagram) (n : ℕ) (bs bs' : List Bool) (e : Diagram) → bs' ≡ marked_by bs (seen (get_or rs n e)) → n < length rs → length ts ≤ length bs → Each Nodal ts → Sparing ts rs bs × Covers ts rs n bs → Sparing ts rs bs' × Covers ts rs (n + 1) bs'

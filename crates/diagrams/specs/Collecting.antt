@@ -1,14 +1,16 @@
 -- Throwing out: what given roots reach, and what is held when everything else is thrown out.
-use Rattle.std.specs.Prelude.{◌≡◌, ℕ, ◌<◌, ◌≤◌, Bool, true, false, List, [], ◌∷◌, ◌++◌, length, take, slice_index_or, slice_set}
-use Rattle.interning.specs.Decode.{decode}
+use Rattle.std.specs.Prelude.{◌≡◌, ℕ, ◌<◌, ◌≤◌, Bool, true, false, List, [], ◌∷◌, ◌++◌, length, map, Ok, Err, Result, slice_index_or, slice_set}
 use Rattle.interning.specs.Distinct.{◌∈◌, Within}
+use Rattle.interning.specs.Places.{Stands}
 use Rattle.memos.specs.declared.diagram.Diagram.{Diagram}
 use Rattle.memos.specs.declared.diagram.View.{View}
 use Rattle.memos.specs.declared.diagram.View.TheVariants.{None as Never, Always, Node as Place}
 use Rattle.memos.specs.Diagrams.{seen}
 use Rattle.families.specs.Trees.{Tree, none, always, node}
 use Rattle.diagrams.specs.declared.node.Node.{Node}
-use Rattle.diagrams.specs.NodeKeys.{Below, tree_at, node_tree}
+use Rattle.diagrams.specs.declared.nodes.Cell.{Cell}
+use Rattle.diagrams.specs.declared.nodes.TooFewCells.{TooFewCells}
+use Rattle.diagrams.specs.NodeKeys.{Below, tree_at}
 use Rattle.diagrams.specs.Building.{Denotes}
 
 -- the nodes in a tree, itself included
@@ -27,6 +29,20 @@ pub record Collected (ts : List Tree) (roots : List Diagram) (ts' : List Tree) (
   pub kept : (i : ℕ) (d : Diagram) (t : Tree) → i < length roots → Denotes ts (slice_index_or roots i d) t → Denotes ts' (slice_index_or roots' i d) t
   pub only : Within ts' (reached ts roots)
   pub all : Within (reached ts roots) ts'
+
+-- a cell of which nothing is kept
+abbrev pub blank : Cell
+blank = record { marked = false; node = record { member = 0; low = record { code = 0 }; high = record { code = 0 } }; moved = record { code = 0 } }
+
+-- the marks of cells, their nodes, and the names that they tell
+abbrev pub marks : List Cell → List Bool
+marks cs = map (λ c. c.marked) cs
+
+abbrev pub copies : List Cell → List Node
+copies cs = map (λ c. c.node) cs
+
+abbrev pub moves : List Cell → List Diagram
+moves cs = map (λ c. c.moved) cs
 
 -- the place p is marked
 abbrev pub Marked : List Bool → ℕ → Type 0
@@ -56,6 +72,10 @@ Covers ts roots n bs = (i : ℕ) (d : Diagram) → i < n → Below (length ts) (
 abbrev pub ClosedFrom : List Node → ℕ → List Bool → Type 0
 ClosedFrom ks n bs = (p : ℕ) (d : Node) → n ≤ p → p < length ks → Marked bs p → Marks bs (seen (slice_index_or ks p d).low) × Marks bs (seen (slice_index_or ks p d).high)
 
+-- the cells of the marked places from n on have the nodes that stand there
+abbrev pub Copied : List Node → ℕ → List Cell → Type 0
+Copied ks n cs = (p : ℕ) (d : Node) → n ≤ p → p < length ks → Marked (marks cs) p → Stands ks (slice_index_or (copies cs) p d) p
+
 -- the name under which a diagram goes after its place has moved
 abbrev pub moved_as : List Diagram → Diagram → View → Diagram
 moved_as ms d Never = d
@@ -67,11 +87,7 @@ pub record Moved (ts : List Tree) (bs : List Bool) (n : ℕ) (ts' : List Tree) (
   pub there : (p : ℕ) (d : Diagram) → p < n → Marked bs p → Denotes ts' (slice_index_or ms p d) (slice_index_or ts p none)
   pub only : (t : Tree) → t ∈ ts' → (p : ℕ) × (p < n) × Marked bs p × (slice_index_or ts p none ≡ t)
 
--- the trees of the first n nodes
-abbrev pub trees_of : ℕ → List Node → List Tree
-trees_of n ks = decode node_tree (take n ks)
-
 -- Where there are cells enough everything that no root reaches is thrown out, and else nothing is done.
-abbrev pub ThrownOut : ℕ → List Tree → List Diagram → List Tree → List Diagram → Bool → Type 0
-ThrownOut cells ts roots ts' roots' true = Collected ts roots ts' roots'
-ThrownOut cells ts roots ts' roots' false = (cells < length ts) × (ts' ≡ ts) × (roots' ≡ roots)
+abbrev pub ThrownOut : ℕ → List Tree → List Diagram → List Tree → List Diagram → Result (Unit {0}) TooFewCells → Type 0
+ThrownOut cells ts roots ts' roots' (Ok u) = (length ts ≤ cells) × Collected ts roots ts' roots'
+ThrownOut cells ts roots ts' roots' (Err e) = (cells < length ts) × (ts' ≡ ts) × (roots' ≡ roots)

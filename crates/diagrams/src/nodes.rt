@@ -1,14 +1,16 @@
 //! The memory of nodes. A node's parts stand at earlier places, so that it is read front to back as a list of trees.
 //! Nodes are told by their trees: equal trees have one place, and two diagrams are the same exactly when their trees are.
-ghost use Rattle.std.specs.Prelude.{◌+◌, ◌^◌, ◌≤◌};
+ghost use Rattle.std.specs.Prelude.{◌≡◌, ◌+◌, ◌^◌, ◌≤◌};
 ghost use Rattle.interning.specs.Decode.{Rooted, decode};
 ghost use Rattle.interning.specs.Model.{Sound, held, capacity};
 ghost use Rattle.interning.specs.Places.{Each};
 ghost use Rattle.families.specs.Good.{Proper};
+ghost use Rattle.diagrams.specs.Collecting.{blank};
 ghost use Rattle.diagrams.specs.NodeKeys.{NamesBelow, node_mark, node_tree};
 
 use crate::node::Node;
 use interning::interner::Interner;
+use memos::diagram::Diagram;
 
 mod avoid;
 mod branch;
@@ -30,6 +32,32 @@ pub struct NodeMemory<'a> {
     ghost sound: { Sound node_mark interner },
     ghost rooted: { ∥ Rooted NamesBelow (held interner) ∥₁ },
     ghost good: { ∥ Each Proper (decode node_tree (held interner)) ∥₁ },
+}
+
+// What is kept of a place while the nodes that no root reaches are thrown out: whether it is marked, its node, and the name
+// under which it goes afterwards.
+#[derive(Clone, Copy)]
+pub struct Cell {
+    marked: bool,
+    node: Node,
+    moved: Diagram,
+}
+
+impl Cell {
+    // A cell of which nothing is kept yet.
+    pub fn blank() -> Cell
+        ensures { result ≡ blank }
+    {
+        Cell {
+            marked: false,
+            node: Node {
+                member: 0,
+                low: Diagram::none(),
+                high: Diagram::none(),
+            },
+            moved: Diagram::none(),
+        }
+    }
 }
 
 // Fewer cells than nodes are lent.

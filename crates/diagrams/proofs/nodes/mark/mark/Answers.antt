@@ -1,8 +1,12 @@
-use Rattle.std.proofs.Common.{true, sym, ap, ◌∙◌}
-use Rattle.std.proofs.lemmas.List.{set_past}
-use Rattle.diagrams.specs.Collecting.{marked_by}
+use Rattle.std.proofs.Common.{refl, ap, ◌∙◌}
+use Rattle.std.proofs.Math.Seq.{map-set_same}
+use Rattle.std.proofs.lemmas.List.{map-set}
+use Rattle.diagrams.specs.Collecting.{blank, marked_by, marks}
 use Rattle.diagrams.proofs.nodes.mark.mark.Goals as goal
 
-pub returns-else-place-marks : goal.returns-else-place-marks
-returns-else-place-marks c =
-    sym (set_past c.args.marks.now c.in-Node.place true c.if-place-marks.false) ∙ ap (marked_by c.args.marks.now) c.in-Node.ensures
+pub returns-then-place-cells-clause-marked : goal.returns-then-place-cells-clause-marked
+returns-then-place-cells-clause-marked c =
+    map-set _ c.args.cells.now c.in-Node.place _ ∙ ap (marked_by (marks c.args.cells.now)) c.in-Node.ensures
+
+pub returns-then-place-cells-clause-copies : goal.returns-then-place-cells-clause-copies
+returns-then-place-cells-clause-copies c = map-set_same _ c.args.cells.now c.in-Node.place _ blank refl

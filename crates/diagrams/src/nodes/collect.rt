@@ -4,7 +4,7 @@ ghost use Rattle.std.specs.Prelude.{◌≡◌, ◌≤◌, length, map};
 ghost use Rattle.interning.specs.Model.{held};
 ghost use Rattle.memos.specs.Diagrams.{seen};
 ghost use Rattle.diagrams.specs.Collecting.{ClosedFrom, Copied, Moved, ThrownOut, marks, moved_as, moves};
-ghost use Rattle.diagrams.specs.Memory.{places, trees};
+ghost use Rattle.diagrams.specs.Memory.{SameMemory, trees};
 
 use super::{Cell, NodeMemory, TooFewCells};
 use memos::diagram::{Diagram, View};
@@ -32,8 +32,7 @@ impl<'a> NodeMemory<'a> {
     // Throws out every node that no root reaches, and moves the roots. Refused where fewer cells than nodes are lent.
     pub fn collect(&mut self, roots: &mut [Diagram], cells: &mut [Cell]) -> Result<(), TooFewCells>
         ensures collected { ThrownOut (length cells.old) (trees self.old) roots.old (trees self.new) roots.new result }
-        ensures places { places self.new ≡ places self.old }
-        ensures named { self.new.interner.slots.ghost_name ≡ self.old.interner.slots.ghost_name }
+        ensures same { SameMemory self.old self.new }
     {
         if cells.len() < self.len() as usize {
             return Err(TooFewCells);
@@ -50,8 +49,7 @@ impl<'a> NodeMemory<'a> {
         requires closed { ClosedFrom (held self.old.interner) 0 (marks cells.old) }
         requires copied { Copied (held self.old.interner) 0 cells.old }
         ensures moved { Moved (trees self.old) (marks cells.old) (length (trees self.old)) (trees self.new) (moves cells.new) }
-        ensures places { places self.new ≡ places self.old }
-        ensures named { self.new.interner.slots.ghost_name ≡ self.old.interner.slots.ghost_name }
+        ensures same { SameMemory self.old self.new }
     {
         let len = self.len();
         self.clear();

@@ -18,6 +18,5 @@ invariant_of-self c =
 pub returns : goal.returns
 returns c = record {
   trees = ap (decode node_tree) c.clear.ensures.held ∙ decode_none node_tree;
-  places = c.clear.ensures.capacity;
-  named = c.clear.ensures.named;
+  same = record { room = c.clear.ensures.capacity; named = c.clear.ensures.named };
 }

@@ -10,7 +10,7 @@ use Rattle.diagrams.proofs.Moves.{fitting, moved_next, moved_none, moved_unmarke
 use Rattle.diagrams.proofs.nodes.NodeMemory.refill.Goals as goal
 
 pub loop-place-init : goal.loop-place-init
-loop-place-init c = record { places_stay = refl; named = refl; marks_stay = refl; copies_stay = refl; moved = moved_none _ _ _ _ c.clear.ensures.trees }
+loop-place-init c = record { same = c.clear.ensures.same; marks_stay = refl; copies_stay = refl; moved = moved_none _ _ _ _ c.clear.ensures.trees }
 
 pub build-requires : goal.build-requires
 build-requires c =
@@ -20,14 +20,13 @@ build-requires c =
 pub unwrap-diagram-requires : goal.unwrap-diagram-requires
 unwrap-diagram-requires c =
     let inv = c.loop-place.invariant in
-    never_refused c.args.self.now c.args.cells.now c.loop-place.cells c.requires.closed c.requires.copied inv.marks_stay inv.copies_stay c.loop-place.place (omega arith) c.if-not-marked.false (trees c.loop-place.self) inv.moved _ _ c.moved-low.ensures c.moved-high.ensures (places c.loop-place.self) c.build.result (trees c.build.new.self) c.build.ensures.joins (apart_once _ (memory_apart c.loop-place.self)) (inv.places_stay ∙ c.clear.ensures.places)
+    never_refused c.args.self.now c.args.cells.now c.loop-place.cells c.requires.closed c.requires.copied inv.marks_stay inv.copies_stay c.loop-place.place (omega arith) c.if-not-marked.false (trees c.loop-place.self) inv.moved _ _ c.moved-low.ensures c.moved-high.ensures (places c.loop-place.self) c.build.result (trees c.build.new.self) c.build.ensures.joins (apart_once _ (memory_apart c.loop-place.self)) inv.same.room
 
 pub loop-place-preserved-then-not-marked : goal.loop-place-preserved-then-not-marked
 loop-place-preserved-then-not-marked c =
     let inv = c.loop-place.invariant in
     record {
-      places_stay = inv.places_stay;
-      named = inv.named;
+      same = inv.same;
       marks_stay = inv.marks_stay;
       copies_stay = inv.copies_stay;
       moved = moved_unmarked _ _ _ _ _ (ap (λ bs. get_or bs c.loop-place.place false) (sym inv.marks_stay) ∙ mark_at c.loop-place.cells _ ∙ c.if-not-marked.true) inv.moved;
@@ -38,8 +37,7 @@ loop-place-preserved c =
     let inv = c.loop-place.invariant in
     let next = moved_next c.args.self.now c.args.cells.now c.loop-place.cells c.requires.closed c.requires.copied inv.marks_stay inv.copies_stay c.loop-place.place (omega arith) c.if-not-marked.false (trees c.loop-place.self) inv.moved _ _ c.moved-low.ensures c.moved-high.ensures (places c.loop-place.self) c.build.result (trees c.build.new.self) c.build.ensures.joins c.unwrap-diagram.result c.unwrap-diagram.ensures (simp length-map (omega arith)) in
     record {
-      places_stay = c.build.ensures.places ∙ inv.places_stay;
-      named = c.build.ensures.named ∙ inv.named;
+      same = record { room = c.build.ensures.places ∙ inv.same.room; named = c.build.ensures.named ∙ inv.same.named };
       marks_stay = map-set_same _ c.loop-place.cells _ _ blank refl ∙ inv.marks_stay;
       copies_stay = map-set_same _ c.loop-place.cells _ _ blank refl ∙ inv.copies_stay;
       moved = subst (Moved (trees c.args.self.now) (marks c.args.cells.now) (c.loop-place.place + 1) (trees c.build.new.self)) (sym (map-set _ c.loop-place.cells _ _)) next;

@@ -19,18 +19,15 @@ use Rattle.families.proofs.Numbers.{holds_same}
 use Rattle.families.proofs.Weights.{holds_add, holds_zero, is_member_lem, weight_of, weight_pos, weight_step}
 use Rattle.diagrams.specs.declared.node.Node.{Node}
 use Rattle.diagrams.specs.declared.nodes.NodeMemory.{NodeMemory}
-use Rattle.diagrams.specs.NodeKeys.{tree_at}
+use Rattle.diagrams.specs.NodeKeys.{tree_at, node_tree}
 use Rattle.diagrams.specs.Memory.{trees}
-use Rattle.diagrams.specs.Building.{Denotes}
+use Rattle.diagrams.specs.Building.{Denotes, NamedNode}
 use Rattle.diagrams.specs.Avoiding.{apart, first_avoiding, found, has_avoiding}
 use Rattle.diagrams.specs.Folding.{Folded, value_at}
-use Rattle.diagrams.proofs.Firsts.{denoted, or_else, plus}
+use Rattle.diagrams.proofs.Firsts.{bit_some, bit_weight, denoted, high_denotes, high_falls, low_denotes, low_falls, or_else, plus}
 use Rattle.diagrams.proofs.Folds.{node_good, value_right}
-use Rattle.diagrams.proofs.Memories.{place_tree, place_within}
-
-pub not_not : (x y : Bool) → x ≡ not y → not x ≡ y
-not_not x true e = ap not e
-not_not x false e = ap not e
+use Rattle.diagrams.proofs.Memories.{place_tree}
+use Rattle.diagrams.proofs.Opened.{place_of}
 
 -- no common bit is no common member
 apart_free : (g n : ℕ) → apart g n ≡ true → (v : ℕ) → (holds g v && holds n v) ≡ false
@@ -143,53 +140,72 @@ node_found g v l h good =
     ∙ found_parts (apart g (weight v)) (weight v) (first_avoiding g (groups h)) (first_avoiding g (groups l))
     ∙ ap found (sym (first_node g v l h good.fits.1 (groups_below v h good.high)))
 
-module _ (m : NodeMemory) (p : ℕ) (k : Node) (stands : Stands (held m.interner) k p) (g : ℕ) where
-  member_fits : Member k.member
-  member_fits = (node_good m p k stands).fits.1
+-- the node of a diagram
+module _ (m : NodeMemory) (d : Diagram) (k : Node) (named : NamedNode (held m.interner) (seen d) (Some k)) where
+  abbrev at : (p : ℕ) × (Place p ≡ seen d) × Stands (held m.interner) k p
+  at = place_of (held m.interner) (seen d) k named
 
-  high_below : AllByRecursion (λ n. n < weight k.member) (groups (tree_at (trees m) k.high))
-  high_below = groups_below k.member (tree_at (trees m) k.high) (node_good m p k stands).high
+  abbrev low : Tree
+  low = tree_at (trees m) k.low
 
-  place_first : first_avoiding g (groups (get_or (trees m) p none)) ≡ or_else (with_member (apart g (weight k.member)) (weight k.member) (first_avoiding g (groups (tree_at (trees m) k.high)))) (first_avoiding g (groups (tree_at (trees m) k.low)))
-  place_first =
-      ap (λ t. first_avoiding g (groups t)) (place_tree m p k none stands)
-      ∙ first_node g k.member (tree_at (trees m) k.low) (tree_at (trees m) k.high) member_fits high_below
+  abbrev high : Tree
+  high = tree_at (trees m) k.high
 
-  module _ (bs : List Bool) (told : Folded (has_avoiding g) (trees m) (length (trees m)) bs) where
-    high_right : value_at (has_avoiding g) bs (seen k.high) ≡ found (first_avoiding g (groups (tree_at (trees m) k.high)))
-    high_right = value_right (has_avoiding g) (trees m) (length (trees m)) bs told (seen k.high) (place_within m p k stands).1
+  good : Good 1 (node_tree (trees m) k)
+  good = node_good m at.0 k at.2
+
+  high_below : AllByRecursion (λ n. n < weight k.member) (groups high)
+  high_below = groups_below k.member high good.high
+
+  -- its parts have smaller names, and denote their trees
+  pub named_falls : (k.low.code < d.code) × (k.high.code < d.code)
+  named_falls = (low_falls m d at.0 k at.1 at.2, high_falls m d at.0 k at.1 at.2)
+
+  pub named_low : Denotes (trees m) k.low low
+  named_low = low_denotes m d at.0 k at.1 at.2
+
+  pub named_high : Denotes (trees m) k.high high
+  named_high = high_denotes m d at.0 k at.1 at.2
+
+  -- its member has a weight
+  module _ (o : Option ℕ) (u : ℕ) (is : o ≡ cond (is_member u) (Some (weight u)) None) (same : u ≡ k.member) where
+    pub named_some : o ≡ None → ⊥
+    named_some nothing = bit_some o u k.member nothing is same (is_member_lem k.member good.fits.1)
+
+    pub named_weight : (w : ℕ) → o ≡ Some w → w ≡ weight k.member
+    named_weight w some = bit_weight o u k.member w some is same (is_member_lem k.member good.fits.1)
+
+  module _ (g : ℕ) where
+    parts : (t : Tree) → Denotes (trees m) d t → or_else (with_member (apart g (weight k.member)) (weight k.member) (first_avoiding g (groups high))) (first_avoiding g (groups low)) ≡ first_avoiding g (groups t)
+    parts t den = sym (first_node g k.member low high good.fits.1 high_below) ∙ ap (λ s. first_avoiding g (groups s)) (sym (place_tree m at.0 k none at.2) ∙ denoted (trees m) d (Place at.0) t at.1 den)
+
+    high_told : (bs : List Bool) → Folded (has_avoiding g) (trees m) (length (trees m)) bs → value_at (has_avoiding g) bs (seen k.high) ≡ has_avoiding g high
+    high_told bs told = value_right (has_avoiding g) (trees m) (length (trees m)) bs told (seen k.high) named_high.within
 
     -- where the cells tell of a group on the high side, there is one
-    pub high_some : (b : Bool) (o : Option ℕ) → b ≡ value_at (has_avoiding g) bs (seen k.high) → b ≡ true → o ≡ first_avoiding g (groups (tree_at (trees m) k.high)) → o ≡ None → ⊥
-    high_some b o tells passes is nothing = both_ways b (tells ∙ high_right ∙ ap found (sym is ∙ nothing)) passes
+    pub high_some : (bs : List Bool) → Folded (has_avoiding g) (trees m) (length (trees m)) bs → (b : Bool) (o : Option ℕ) → b ≡ value_at (has_avoiding g) bs (seen k.high) → b ≡ true → o ≡ first_avoiding g (groups high) → o ≡ None → ⊥
+    high_some bs told b o tells passes is nothing = both_ways b (tells ∙ high_told bs told ∙ ap found (sym is ∙ nothing)) passes
 
-  -- a group of the high side with the member fits
-  pub sum_few : (w n : ℕ) (o : Option ℕ) → w ≡ weight k.member → o ≡ first_avoiding g (groups (tree_at (trees m) k.high)) → o ≡ Some n → w + n < 2 ^ 48
-  sum_few w n o e is some =
-      let below = first_less g n (weight k.member) (groups (tree_at (trees m) k.high)) high_below (sym some ∙ is) in
-      omega (arith, e, weight_few k.member n member_fits below)
+    -- a group of the high side with the member fits
+    pub sum_few : (w n : ℕ) (o : Option ℕ) → w ≡ weight k.member → o ≡ first_avoiding g (groups high) → o ≡ Some n → w + n < 2 ^ 48
+    sum_few w n o e is some =
+        let below = first_less g n (weight k.member) (groups high) high_below (sym some ∙ is) in
+        omega (arith, e, weight_few k.member n good.fits.1 below)
 
-  module _ (d : Diagram) (t : Tree) (is : Place p ≡ seen d) (den : Denotes (trees m) d t) where
-    first_parts : or_else (with_member (apart g (weight k.member)) (weight k.member) (first_avoiding g (groups (tree_at (trees m) k.high)))) (first_avoiding g (groups (tree_at (trees m) k.low))) ≡ first_avoiding g (groups t)
-    first_parts = sym place_first ∙ ap (λ s. first_avoiding g (groups s)) (denoted (trees m) d (Place p) t is den)
+    module _ (t : Tree) (den : Denotes (trees m) d t) where
+      -- the first group is that of high with the member, where the member is left out and high has one
+      pub first_high : (w n : ℕ) (a : Bool) (o : Option ℕ) → w ≡ weight k.member → a ≡ apart g w → a ≡ true → o ≡ first_avoiding g (groups high) → o ≡ Some n → Some (w + n) ≡ first_avoiding g (groups t)
+      first_high w n a o e tests passes is some =
+          ap (λ x. Some (x + n)) e
+          ∙ pick_high (apart g (weight k.member)) (weight k.member) n (first_avoiding g (groups high)) (first_avoiding g (groups low)) (ap (apart g) (sym e) ∙ sym tests ∙ passes) (sym some ∙ is)
+          ∙ parts t den
 
-    -- the first group is that of high with the member, where the member is left out and high has one
-    pub first_high : (w n : ℕ) (a : Bool) (o : Option ℕ) → w ≡ weight k.member → a ≡ apart g w → a ≡ true → o ≡ first_avoiding g (groups (tree_at (trees m) k.high)) → o ≡ Some n → Some (w + n) ≡ first_avoiding g (groups t)
-    first_high w n a o e tests passes high some =
-        ap (λ x. Some (x + n)) e
-        ∙ pick_high (apart g (weight k.member)) (weight k.member) n (first_avoiding g (groups (tree_at (trees m) k.high))) (first_avoiding g (groups (tree_at (trees m) k.low))) (ap (apart g) (sym e) ∙ sym tests ∙ passes) (sym some ∙ high)
-        ∙ first_parts
+      -- it is that of low where the member is not left out
+      pub first_barred : (w : ℕ) (a : Bool) (o : Option ℕ) → w ≡ weight k.member → a ≡ apart g w → a ≡ false → o ≡ first_avoiding g (groups low) → o ≡ first_avoiding g (groups t)
+      first_barred w a o e tests fails is =
+          is ∙ pick_barred (apart g (weight k.member)) (weight k.member) (first_avoiding g (groups high)) (first_avoiding g (groups low)) (ap (apart g) (sym e) ∙ sym tests ∙ fails) ∙ parts t den
 
-    -- it is that of low where the member is not left out
-    pub first_barred : (w : ℕ) (a : Bool) (o : Option ℕ) → w ≡ weight k.member → a ≡ apart g w → a ≡ false → o ≡ first_avoiding g (groups (tree_at (trees m) k.low)) → o ≡ first_avoiding g (groups t)
-    first_barred w a o e tests fails low =
-        low
-        ∙ pick_barred (apart g (weight k.member)) (weight k.member) (first_avoiding g (groups (tree_at (trees m) k.high))) (first_avoiding g (groups (tree_at (trees m) k.low))) (ap (apart g) (sym e) ∙ sym tests ∙ fails)
-        ∙ first_parts
-
-    -- and where high has none
-    pub first_low : (bs : List Bool) (b : Bool) (o : Option ℕ) → Folded (has_avoiding g) (trees m) (length (trees m)) bs → b ≡ value_at (has_avoiding g) bs (seen k.high) → b ≡ false → o ≡ first_avoiding g (groups (tree_at (trees m) k.low)) → o ≡ first_avoiding g (groups t)
-    first_low bs b o told tells fails low =
-        low
-        ∙ pick_low (apart g (weight k.member)) (weight k.member) (first_avoiding g (groups (tree_at (trees m) k.high))) (first_avoiding g (groups (tree_at (trees m) k.low))) (sym (high_right bs told) ∙ sym tells ∙ fails)
-        ∙ first_parts
+      -- and where high has none
+      pub first_low : (bs : List Bool) → Folded (has_avoiding g) (trees m) (length (trees m)) bs → (b : Bool) (o : Option ℕ) → b ≡ value_at (has_avoiding g) bs (seen k.high) → b ≡ false → o ≡ first_avoiding g (groups low) → o ≡ first_avoiding g (groups t)
+      first_low bs told b o tells fails is =
+          is ∙ pick_low (apart g (weight k.member)) (weight k.member) (first_avoiding g (groups high)) (first_avoiding g (groups low)) (sym (high_told bs told) ∙ sym tells ∙ fails) ∙ parts t den

@@ -1,5 +1,5 @@
 -- The first group that shares no member with a given one: of a node it is one with its member, if that is left out and high has any, or else one without.
-use Rattle.std.proofs.Common.{◌≡◌, ℕ, ◌+◌, ◌^◌, ◌<◌, Bool, true, false, cond, not, ◌&&◌, ◌||◌, eqb, ◌↔◌, List, [], ◌∷◌, ◌++◌, map, length, get_or, Some, None, Option, sym, refl, ap, ◌∙◌, arith}
+use Rattle.std.proofs.Common.{◌≡◌, ℕ, ◌+◌, ◌^◌, ◌<◌, Bool, true, false, cond, ◌&&◌, ◌||◌, eqb, ◌↔◌, List, [], ◌∷◌, ◌++◌, map, length, Some, None, Option, sym, refl, ap, ◌∙◌, arith}
 use lib.Bits.{bit_and, and_le_r}
 use Rattle.std.specs.List.{AllByRecursion}
 use Rattle.std.proofs.lemmas.Bool.{eqb-true, eq-eqb, and_from, and_parts, both_ways}
@@ -43,9 +43,6 @@ apart_members g n q = (
   (λ e r. both_ways (holds g r.0 && holds n r.0) (apart_free g n e r.0) (and_from (holds g r.0) (holds n r.0) r.1 r.2)),
   λ never. free_apart g n q (λ v. refute (holds g v && holds n v) (λ e. let p = and_parts (holds g v) (holds n v) e in never (v, p.0, p.1))),
 )
-
-apart_zero : (g : ℕ) → apart g 0 ≡ true
-apart_zero g = let few = and_le_r g 0 in eq-eqb (bit_and g 0) 0 (omega arith)
 
 only_weight : (v u : ℕ) → Member v → holds (weight v) u ≡ eqb u v
 only_weight v u p =

@@ -1,6 +1,6 @@
 -- Moving: a marked node is built anew over its moved parts, and has the tree that it had. There is room for it, since
 -- no more trees are held than there were.
-use Rattle.std.proofs.Common.{◌≡◌, ℕ, ◌+◌, ◌<◌, Bool, true, false, List, [], ◌∷◌, ◌++◌, length, get_or, set, Ok, Err, Result, IsOk, sym, refl, ap, ◌∙◌, subst, inl, inr, ⊎_elim, not-suc-le-zero, arith, get_or-set_other, get_or-set_same}
+use Rattle.std.proofs.Common.{◌≡◌, ℕ, ◌+◌, ◌<◌, Bool, true, false, List, [], ◌∷◌, ◌++◌, length, get_or, set, Ok, Err, Result, IsOk, sym, refl, ap, ◌∙◌, subst, inl, inr, ⊎_elim, arith, get_or-set_other, get_or-set_same}
 use Rattle.std.proofs.Math.ListN.{get_or-map}
 use Rattle.std.proofs.lemmas.List.{get_or_default}
 use Rattle.std.proofs.lemmas.Bool.{cases_order, false≢true}
@@ -16,7 +16,7 @@ use Rattle.memos.specs.declared.diagram.View.{View}
 use Rattle.memos.specs.declared.diagram.View.TheVariants.{None as Never, Always, Node as Place}
 use Rattle.memos.specs.Diagrams.{seen}
 use Rattle.families.specs.Trees.{Tree, none, build}
-use Rattle.families.specs.Good.{Good, Proper}
+use Rattle.families.specs.Good.{Proper}
 use Rattle.families.specs.Outcomes.{made}
 use Rattle.diagrams.specs.declared.node.Node.{Node}
 use Rattle.diagrams.specs.declared.nodes.Cell.{Cell}
@@ -45,12 +45,6 @@ pub name_moved : (ts : List Tree) (bs : List Bool) (n : ℕ) (ts' : List Tree) (
 name_moved ts bs n ts' ms moved d Never e b m = record { within = subst (Below (length ts')) (sym e) tt; is = ap (tree_of ts') e }
 name_moved ts bs n ts' ms moved d Always e b m = record { within = subst (Below (length ts')) (sym e) tt; is = ap (tree_of ts') e }
 name_moved ts bs n ts' ms moved d (Place q) e b m = moved.there q d b m
-
-pub moved_none : (ts : List Tree) (bs : List Bool) (ts' : List Tree) (ms : List Diagram) → ts' ≡ [] → Moved ts bs 0 ts' ms
-moved_none ts bs ts' ms e = record {
-  there = λ p d l m. absurd (not-suc-le-zero l);
-  only = λ t i. absurd (subst (λ xs. t ∈ xs) e i);
-}
 
 -- a place that is not marked does not move
 pub moved_unmarked : (ts : List Tree) (bs : List Bool) (n : ℕ) (ts' : List Tree) (ms : List Diagram) → get_or bs n false ≡ false → Moved ts bs n ts' ms → Moved ts bs (n + 1) ts' ms

@@ -5,8 +5,7 @@ use Rattle.diagrams.specs.Building.{NamedNode}
 use Rattle.diagrams.proofs.Opened.{opened_named}
 use Rattle.diagrams.proofs.nodes.NodeMemory.node.Goals as goal
 
-pub returns-in-Node : goal.returns-in-Node
-returns-in-Node c =
+pub returns-in-Node-clause-opened : goal.returns-in-Node-clause-opened
+returns-in-Node-clause-opened c t den =
     let m = c.args.self.now in
-    let named : NamedNode (held m.interner) (seen c.args.diagram) c.key_at.result = subst (λ v. NamedNode (held m.interner) v c.key_at.result) c.in-Node.ensures (c.key_at.ensures m.sound) in
-    record { named = named; opened = λ t den. opened_named m _ _ named t den.within den.is }
+    opened_named m (seen c.args.diagram) _ (subst (λ v. NamedNode (held m.interner) v c.key_at.result) c.in-Node.ensures (c.key_at.ensures m.sound)) t den.within den.is

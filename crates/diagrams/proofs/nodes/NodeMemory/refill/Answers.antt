@@ -6,11 +6,8 @@ use Rattle.diagrams.specs.Collecting.{Moved, blank, marks, moves}
 use Rattle.diagrams.specs.Memory.{trees, places}
 use Rattle.diagrams.proofs.Marks.{mark_at}
 use Rattle.diagrams.proofs.Memories.{memory_apart}
-use Rattle.diagrams.proofs.Moves.{fitting, moved_next, moved_none, moved_unmarked, never_refused}
+use Rattle.diagrams.proofs.Moves.{fitting, moved_next, moved_unmarked, never_refused}
 use Rattle.diagrams.proofs.nodes.NodeMemory.refill.Goals as goal
-
-pub loop-place-init : goal.loop-place-init
-loop-place-init c = record { same = c.clear.ensures.same; marks_stay = refl; copies_stay = refl; moved = moved_none _ _ _ _ c.clear.ensures.trees }
 
 pub build-requires : goal.build-requires
 build-requires c =

@@ -34,8 +34,8 @@ pub struct NodeMemory<'a> {
     ghost good: { ∥ Each Proper (decode node_tree (held interner)) ∥₁ },
 }
 
-// What is kept of a place while the nodes that no root reaches are thrown out: whether it is marked, its node, and the name
-// under which it goes afterwards.
+// What is kept of a place while the nodes that no root reaches are thrown out: whether it is marked, then its node, and at last
+// the name under which it goes. A mark of its own, and no option of a node: a place is marked before its node is read.
 #[derive(Clone, Copy)]
 pub struct Cell {
     marked: bool,

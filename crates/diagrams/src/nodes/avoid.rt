@@ -27,10 +27,7 @@ fn avoids(group: u64, other: u64) -> bool
 fn leaves_out(group: u64, member: u8) -> bool
     ensures { result ≡ (is_member member && apart group (weight member)) }
 {
-    match bit(u32::from(member)) {
-        Some(weight) => avoids(group, weight),
-        None => false,
-    }
+    bit(u32::from(member)).is_some_and(|weight| avoids(group, weight))
 }
 
 // Whether a tree has a group that shares no member with a given one.

@@ -12,6 +12,7 @@ use Rattle.memos.specs.declared.diagram.View.{View}
 use Rattle.memos.specs.declared.diagram.View.TheVariants.{None as Never, Always, Node as Place}
 use Rattle.memos.specs.Diagrams.{seen}
 use Rattle.families.specs.Trees.{Tree, none, is_none, is_always}
+use Rattle.diagrams.specs.declared.node.Node.{Node}
 use Rattle.diagrams.specs.declared.nodes.NodeMemory.{NodeMemory}
 use Rattle.diagrams.specs.NodeKeys.{Below, tree_of, tree_at, node_tree}
 use Rattle.diagrams.specs.Memory.{trees}
@@ -28,6 +29,9 @@ denotes_in ts Never t p b e = absurd (false≢true (sym p ∙ sym (ap (λ s. is_
 denotes_in ts Always t p b e = absurd (false≢true (sym p ∙ sym (ap (λ s. is_none s || is_always s) e)))
 denotes_in ts (Place q) t p b e = stands_in ts t q (record { within = b; here = λ d. get_or_default ts q d none b ∙ e })
 
+blank_node : Node
+blank_node = record { member = 0; low = blank.moved; high = blank.moved }
+
 module _ (m : NodeMemory) (bs : List Bool) (closed : ClosedFrom (held m.interner) 0 bs) where
   abbrev AtMarked : Tree → Type 0
   AtMarked s = (q : ℕ) × (q < length (trees m)) × Marked bs q × (get_or (trees m) q none ≡ s)
@@ -39,11 +43,11 @@ module _ (m : NodeMemory) (bs : List Bool) (closed : ClosedFrom (held m.interner
   marked_inside zero few (Place p) b mk s i = absurd (not-suc-le-zero b)
   marked_inside (suc n) few (Place p) b mk s i =
       let ks = held m.interner in
-      let k = get_or ks p blank.node in
+      let k = get_or ks p blank_node in
       let long = length_decode node_tree ks in
-      let stands : Stands ks k p = record { within = omega arith; here = λ d. get_or_default ks p d blank.node (omega arith) } in
+      let stands : Stands ks k p = record { within = omega arith; here = λ d. get_or_default ks p d blank_node (omega arith) } in
       let names = place_names m p k stands in
-      let parts = closed p blank.node (omega arith) stands.within mk in
+      let parts = closed p blank_node (omega arith) stands.within mk in
       let is = place_tree m p k none stands in
       ⊎_elim (λ (e : s ≡ node_tree (trees m) k). (p, omega arith, mk, is ∙ sym e))
       (λ (o : s ∈ (nodes_in (tree_at (trees m) k.low) ++ nodes_in (tree_at (trees m) k.high))).

@@ -1,7 +1,6 @@
 -- Moving: a marked node is built anew over its moved parts, and has the tree that it had. There is room for it, since
 -- no more trees are held than there were.
-use Rattle.std.proofs.Common.{◌≡◌, ℕ, ◌+◌, ◌<◌, Bool, true, false, List, [], ◌∷◌, ◌++◌, length, get_or, set, Ok, Err, Result, IsOk, sym, refl, ap, ◌∙◌, subst, inl, inr, ⊎_elim, arith, get_or-set_other, get_or-set_same}
-use Rattle.std.proofs.Math.ListN.{get_or-map}
+use Rattle.std.proofs.Common.{◌≡◌, ℕ, ◌+◌, ◌<◌, Bool, true, false, List, [], ◌∷◌, ◌++◌, length, get_or, set, Some, None, is_some, Ok, Err, Result, IsOk, sym, refl, ap, ◌∙◌, subst, inl, inr, ⊎_elim, arith, get_or-set_other, get_or-set_same}
 use Rattle.std.proofs.lemmas.List.{get_or_default}
 use Rattle.std.proofs.lemmas.Bool.{cases_order, false≢true}
 use Rattle.interning.specs.declared.interner.Full.{Full}
@@ -26,7 +25,7 @@ use Rattle.diagrams.specs.Memory.{trees, places}
 use Rattle.diagrams.specs.Building.{Denotes, Fitting, Joins, Lacks, Made}
 use Rattle.diagrams.specs.Collecting.{Marked, Marks, ClosedFrom, Copied, Moved, blank, copies, marks, moved_as, moves}
 use Rattle.diagrams.proofs.Built.{build_node, made_one}
-use Rattle.diagrams.proofs.Marks.{apart_ne, mark_at}
+use Rattle.diagrams.proofs.Marks.{apart_ne, copy_at, mark_at}
 use Rattle.diagrams.proofs.Memories.{memory_fits, memory_proper, place_names, place_tree}
 
 view_kept : (ts ts' : List Tree) → Kept ts ts' → (v : View) → Below (length ts) v → Below (length ts') v × (tree_of ts' v ≡ tree_of ts v)
@@ -54,24 +53,22 @@ moved_unmarked ts bs n ts' ms not moved = record {
   only = λ t i. let r = moved.only t i in (r.0, omega (arith, r.1), r.2, r.3);
 }
 
--- One turn of building anew: at the place p, whose cell has kept its mark and its node, and from the parts' new names.
-module _ (m : NodeMemory) (cs cs' : List Cell) (closed : ClosedFrom (held m.interner) 0 (marks cs)) (copied : Copied (held m.interner) 0 cs) (marks_stay : marks cs' ≡ marks cs) (copies_stay : copies cs' ≡ copies cs) (p : ℕ) (held_below : p < length (trees m)) (here : (get_or cs' p blank).marked ≡ true) (ts' : List Tree) (moved : Moved (trees m) (marks cs) p ts' (moves cs')) (low high : Diagram) (is-low : low ≡ moved_as (moves cs') (get_or cs' p blank).node.low (seen (get_or cs' p blank).node.low)) (is-high : high ≡ moved_as (moves cs') (get_or cs' p blank).node.high (seen (get_or cs' p blank).node.high)) where
+-- One turn of building anew: at the place p, whose cell still keeps the node k, and from the parts' new names.
+module _ (m : NodeMemory) (cs cs' : List Cell) (closed : ClosedFrom (held m.interner) 0 (marks cs)) (copied : Copied (held m.interner) (copies cs)) (stay : copies cs' ≡ copies cs) (p : ℕ) (held_below : p < length (trees m)) (k : Node) (here : (get_or cs' p blank).node ≡ Some k) (ts' : List Tree) (moved : Moved (trees m) (marks cs) p ts' (moves cs')) (low high : Diagram) (is-low : low ≡ moved_as (moves cs') k.low (seen k.low)) (is-high : high ≡ moved_as (moves cs') k.high (seen k.high)) where
   abbrev bs : List Bool
   bs = marks cs
 
   abbrev ms : List Diagram
   ms = moves cs'
 
-  abbrev k : Node
-  k = (get_or cs' p blank).node
+  kept : get_or (copies cs) p None ≡ Some k
+  kept = ap (λ os. get_or os p None) (sym stay) ∙ copy_at cs' p ∙ here
 
   marked : Marked bs p
-  marked = ap (λ xs. get_or xs p false) (sym marks_stay) ∙ mark_at cs' p ∙ here
+  marked = mark_at cs p ∙ ap is_some (sym (copy_at cs p) ∙ kept)
 
   stands : Stands (held m.interner) k p
-  stands =
-      let is : get_or (copies cs) p blank.node ≡ k = ap (λ xs. get_or xs p blank.node) (sym copies_stay) ∙ get_or-map (λ c. c.node) cs' p blank in
-      subst (λ x. Stands (held m.interner) x p) is (copied p blank.node (omega arith) (omega (arith, length_decode node_tree (held m.interner))) marked)
+  stands = copied p k (omega (arith, length_decode node_tree (held m.interner))) kept
 
   parts_marked : Marks bs (seen k.low) × Marks bs (seen k.high)
   parts_marked = subst (λ x. Marks bs (seen x.low) × Marks bs (seen x.high)) (stands.here k) (closed p k (omega arith) stands.within marked)

@@ -1,5 +1,5 @@
 -- Throwing out: what given roots reach, and what is held when everything else is thrown out.
-use Rattle.std.specs.Prelude.{◌≡◌, ℕ, ◌<◌, ◌≤◌, Bool, true, false, List, [], ◌∷◌, ◌++◌, length, map, Ok, Err, Result, slice_index_or, slice_set}
+use Rattle.std.specs.Prelude.{◌≡◌, ℕ, ◌<◌, ◌≤◌, Bool, true, false, List, [], ◌∷◌, ◌++◌, length, map, Some, None, Ok, Err, Option, Result, cond, is_some, nat_lt, slice_index_or, slice_set}
 use Rattle.interning.specs.Distinct.{◌∈◌, Within}
 use Rattle.interning.specs.Places.{Stands}
 use Rattle.memos.specs.declared.diagram.Diagram.{Diagram}
@@ -32,17 +32,18 @@ pub record Collected (ts : List Tree) (roots : List Diagram) (ts' : List Tree) (
 
 -- a cell of which nothing is kept
 abbrev pub blank : Cell
-blank = record { marked = false; node = record { member = 0; low = record { code = 0 }; high = record { code = 0 } }; moved = record { code = 0 } }
+blank = record { node = None; moved = record { code = 0 } }
 
--- the marks of cells, their nodes, and the names that they tell
-abbrev pub marks : List Cell → List Bool
-marks cs = map (λ c. c.marked) cs
-
-abbrev pub copies : List Cell → List Node
+-- the nodes that cells keep, and the names that they tell
+abbrev pub copies : List Cell → List (Option Node)
 copies cs = map (λ c. c.node) cs
 
 abbrev pub moves : List Cell → List Diagram
 moves cs = map (λ c. c.moved) cs
+
+-- a place is marked if its cell keeps a node
+abbrev pub marks : List Cell → List Bool
+marks cs = map (λ c. is_some c.node) cs
 
 -- the place p is marked
 abbrev pub Marked : List Bool → ℕ → Type 0
@@ -54,11 +55,11 @@ Marks bs Never = Unit {0}
 Marks bs Always = Unit {0}
 Marks bs (Place p) = Marked bs p
 
--- the marks with that of a name set
-abbrev pub marked_by : List Bool → View → List Bool
-marked_by bs Never = bs
-marked_by bs Always = bs
-marked_by bs (Place p) = slice_set bs p true
+-- the marks with that of a name set, if its place is one of the first n
+abbrev pub marked_by : ℕ → List Bool → View → List Bool
+marked_by n bs Never = bs
+marked_by n bs Always = bs
+marked_by n bs (Place p) = cond (nat_lt p n) (slice_set bs p true) bs
 
 -- only places are marked whose trees are among those reached
 abbrev pub Sparing : List Tree → List Diagram → List Bool → Type 0
@@ -72,9 +73,9 @@ Covers ts roots n bs = (i : ℕ) (d : Diagram) → i < n → Below (length ts) (
 abbrev pub ClosedFrom : List Node → ℕ → List Bool → Type 0
 ClosedFrom ks n bs = (p : ℕ) (d : Node) → n ≤ p → p < length ks → Marked bs p → Marks bs (seen (slice_index_or ks p d).low) × Marks bs (seen (slice_index_or ks p d).high)
 
--- the cells of the marked places from n on have the nodes that stand there
-abbrev pub Copied : List Node → ℕ → List Cell → Type 0
-Copied ks n cs = (p : ℕ) (d : Node) → n ≤ p → p < length ks → Marked (marks cs) p → Stands ks (slice_index_or (copies cs) p d) p
+-- what is kept of a place is the node that stands there
+abbrev pub Copied : List Node → List (Option Node) → Type 0
+Copied ks os = (p : ℕ) (k : Node) → p < length ks → slice_index_or os p None ≡ Some k → Stands ks k p
 
 -- the name under which a diagram goes after its place has moved
 abbrev pub moved_as : List Diagram → Diagram → View → Diagram

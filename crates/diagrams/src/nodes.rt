@@ -34,12 +34,11 @@ pub struct NodeMemory<'a> {
     ghost good: { ∥ Each Proper (decode node_tree (held interner)) ∥₁ },
 }
 
-// What is kept of a place while the nodes that no root reaches are thrown out: whether it is marked, then its node, and at last
-// the name under which it goes. A mark of its own, and no option of a node: a place is marked before its node is read.
+// What is kept of a place while the nodes that no root reaches are thrown out: its node, if a root reaches it, and the name
+// under which that goes afterwards.
 #[derive(Clone, Copy)]
 pub struct Cell {
-    marked: bool,
-    node: Node,
+    node: Option<Node>,
     moved: Diagram,
 }
 
@@ -49,12 +48,7 @@ impl Cell {
         ensures { result ≡ blank }
     {
         Cell {
-            marked: false,
-            node: Node {
-                member: 0,
-                low: Diagram::none(),
-                high: Diagram::none(),
-            },
+            node: None,
             moved: Diagram::none(),
         }
     }

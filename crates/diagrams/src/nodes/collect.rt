@@ -3,7 +3,7 @@
 ghost use Rattle.std.specs.Prelude.{◌≡◌, ◌≤◌, length, map};
 ghost use Rattle.interning.specs.Model.{held};
 ghost use Rattle.memos.specs.Diagrams.{seen};
-ghost use Rattle.diagrams.specs.Collecting.{ClosedFrom, Copied, Moved, ThrownOut, marks, moved_as, moves};
+ghost use Rattle.diagrams.specs.Collecting.{ClosedFrom, Copied, Moved, ThrownOut, copies, marks, moved_as, moves};
 ghost use Rattle.diagrams.specs.Memory.{SameMemory, trees};
 
 use super::{Cell, NodeMemory, TooFewCells};
@@ -47,7 +47,7 @@ impl<'a> NodeMemory<'a> {
     fn refill(&mut self, cells: &mut [Cell])
         requires cells { length (trees self.old) ≤ length cells.old }
         requires closed { ClosedFrom (held self.old.interner) 0 (marks cells.old) }
-        requires copied { Copied (held self.old.interner) 0 cells.old }
+        requires copied { Copied (held self.old.interner) (copies cells.old) }
         ensures moved { Moved (trees self.old) (marks cells.old) (length (trees self.old)) (trees self.new) (moves cells.new) }
         ensures same { SameMemory self.old self.new }
     {
@@ -55,10 +55,9 @@ impl<'a> NodeMemory<'a> {
         self.clear();
         // An index, since a turn reads the cells of other places than the one that it has come to.
         for place in 0..len {
-            let Cell { marked, node, .. } = cells[place as usize];
-            if !marked {
+            let Some(node) = cells[place as usize].node else {
                 continue;
-            }
+            };
             let low = moved(cells, node.low);
             let high = moved(cells, node.high);
             let diagram = self.build(node.member, low, high).unwrap();

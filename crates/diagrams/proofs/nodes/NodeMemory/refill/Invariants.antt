@@ -6,7 +6,6 @@ use Rattle.diagrams.proofs.nodes.NodeMemory.refill.Given as goal
 abbrev pub invariant-loop-place : goal.invariant-loop-place
 invariant-loop-place l = record {
   same : SameMemory l.fn.self l.self;
-  marks_stay : marks l.cells ≡ marks l.initial.cells;
-  copies_stay : copies l.cells ≡ copies l.initial.cells;
+  stay : copies l.cells ≡ copies l.initial.cells;
   moved : Moved (trees l.fn.self) (marks l.initial.cells) l.place (trees l.self) (moves l.cells);
 }

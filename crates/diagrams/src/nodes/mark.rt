@@ -30,10 +30,10 @@ impl<'a> NodeMemory<'a> {
         ensures marked { marks cells.new ≡ marked_by (length (trees self.now)) (marks cells.old) (seen diagram) }
         ensures copied { Copied (held self.now.interner) (copies cells.old) → Copied (held self.now.interner) (copies cells.new) }
     {
-        if let View::Node(place) = diagram.view() {
-            if place < self.len() {
-                cells[place as usize].node = Some(self.key(place));
-            }
+        if let View::Node(place) = diagram.view()
+            && place < self.len()
+        {
+            cells[place as usize].node = Some(self.key(place));
         }
     }
 

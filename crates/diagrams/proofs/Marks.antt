@@ -19,7 +19,7 @@ use Rattle.diagrams.specs.NodeKeys.{Below, tree_of, tree_at, node_tree}
 use Rattle.diagrams.specs.Memory.{trees}
 use Rattle.diagrams.specs.Collecting.{nodes_in, reached, Marked, Marks, blank, marked_by, marks, copies, Sparing, Covers, ClosedFrom, Copied}
 use Rattle.diagrams.proofs.Memories.{memory_each, place_names, place_tree, place_within}
-use Rattle.diagrams.proofs.NodeTrees.{Nodal, below_rise}
+use Rattle.diagrams.proofs.NodeTrees.{Nodal}
 use Rattle.diagrams.proofs.Reached.{node_itself, low_inside, high_inside, reached_again, reached_root}
 
 marked_within : (bs : List Bool) (p : ℕ) → Marked bs p → p < length bs

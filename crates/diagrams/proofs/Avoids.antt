@@ -1,19 +1,17 @@
 -- The first group that shares no member with a given one: of a node it is one with its member, if that is left out and high has any, or else one without.
-use Rattle.std.proofs.Common.{◌≡◌, ℕ, ◌+◌, ◌^◌, ◌<◌, Bool, true, false, cond, not, ◌&&◌, ◌||◌, eqb, ◌≢◌, ◌↔◌, List, [], ◌∷◌, ◌++◌, map, length, get_or, set, Some, None, Option, sym, refl, ap, ◌∙◌, subst, arith, get_or-set_other, get_or-set_same, below_more}
+use Rattle.std.proofs.Common.{◌≡◌, ℕ, ◌+◌, ◌^◌, ◌<◌, Bool, true, false, cond, ◌&&◌, ◌||◌, eqb, ◌↔◌, List, [], ◌∷◌, ◌++◌, map, length, Some, None, Option, sym, refl, ap, ◌∙◌, arith}
 use lib.Bits.{bit_and, and_le_r}
 use Rattle.std.specs.List.{AllByRecursion}
 use Rattle.std.proofs.lemmas.Bool.{eqb-true, eq-eqb, and_from, and_parts, both_ways}
 use Rattle.interning.specs.Model.{held}
 use Rattle.interning.specs.Places.{Stands}
-use Rattle.interning.proofs.Decode.{length_decode}
 use Rattle.memos.specs.declared.diagram.Diagram.{Diagram}
-use Rattle.memos.specs.declared.diagram.View.{View}
-use Rattle.memos.specs.declared.diagram.View.TheVariants.{None as Never, Always, Node as Place}
+use Rattle.memos.specs.declared.diagram.View.TheVariants.{Node as Place}
 use Rattle.memos.specs.Diagrams.{seen}
 use Rattle.families.specs.Sets.{Meet}
 use Rattle.families.specs.Groups.{Member, holds, is_member, weight}
 use Rattle.families.specs.Trees.{Tree, none, node, groups}
-use Rattle.families.specs.Good.{Good, Proper}
+use Rattle.families.specs.Good.{Good}
 use Rattle.families.proofs.Bools.{same_tests, or_false, refute}
 use Rattle.families.proofs.Common.{holds_and}
 use Rattle.families.proofs.Listing.{groups_below}
@@ -21,16 +19,15 @@ use Rattle.families.proofs.Numbers.{holds_same}
 use Rattle.families.proofs.Weights.{holds_add, holds_zero, is_member_lem, weight_of, weight_pos, weight_step}
 use Rattle.diagrams.specs.declared.node.Node.{Node}
 use Rattle.diagrams.specs.declared.nodes.NodeMemory.{NodeMemory}
-use Rattle.diagrams.specs.NodeKeys.{Below, tree_of, tree_at, node_tree}
+use Rattle.diagrams.specs.NodeKeys.{tree_at, node_tree}
 use Rattle.diagrams.specs.Memory.{trees}
-use Rattle.diagrams.specs.Building.{Denotes}
-use Rattle.diagrams.specs.Avoiding.{Told, apart, finds_at, first_avoiding, found}
-use Rattle.diagrams.proofs.Firsts.{denoted, or_else, plus}
-use Rattle.diagrams.proofs.Memories.{memory_proper, place_names, place_tree, place_within}
-
-pub not_not : (x y : Bool) → x ≡ not y → not x ≡ y
-not_not x true e = ap not e
-not_not x false e = ap not e
+use Rattle.diagrams.specs.Building.{Denotes, NamedNode}
+use Rattle.diagrams.specs.Avoiding.{apart, first_avoiding, found, has_avoiding}
+use Rattle.diagrams.specs.Folding.{Folded, value_at}
+use Rattle.diagrams.proofs.Firsts.{bit_some, bit_weight, denoted, high_denotes, high_falls, low_denotes, low_falls, or_else, plus}
+use Rattle.diagrams.proofs.Folds.{node_good, value_right}
+use Rattle.diagrams.proofs.Memories.{place_tree}
+use Rattle.diagrams.proofs.Opened.{place_of}
 
 -- no common bit is no common member
 apart_free : (g n : ℕ) → apart g n ≡ true → (v : ℕ) → (holds g v && holds n v) ≡ false
@@ -46,9 +43,6 @@ apart_members g n q = (
   (λ e r. both_ways (holds g r.0 && holds n r.0) (apart_free g n e r.0) (and_from (holds g r.0) (holds n r.0) r.1 r.2)),
   λ never. free_apart g n q (λ v. refute (holds g v && holds n v) (λ e. let p = and_parts (holds g v) (holds n v) e in never (v, p.0, p.1))),
 )
-
-apart_zero : (g : ℕ) → apart g 0 ≡ true
-apart_zero g = let few = and_le_r g 0 in eq-eqb (bit_and g 0) 0 (omega arith)
 
 only_weight : (v u : ℕ) → Member v → holds (weight v) u ≡ eqb u v
 only_weight v u p =
@@ -136,82 +130,79 @@ pick_low true w (Some x) l e = absurd (both_ways true e refl)
 pick_low true w None l e = refl
 pick_low false w h l e = refl
 
--- what the cells tell of a name is right where it is right for the places before
-finds_right : (g : ℕ) (ts : List Tree) (n : ℕ) (bs : List Bool) → Told g ts n bs → (v : View) → Below n v → finds_at bs v ≡ found (first_avoiding g (groups (tree_of ts v)))
-finds_right g ts n bs told Never b = refl
-finds_right g ts n bs told Always b = ap (λ a. found (cond a (Some 0) None)) (sym (apart_zero g))
-finds_right g ts n bs told (Place p) b = told p b
+-- whether a family's tree has such a group, from whether its two parts have
+pub node_found : (g v : ℕ) (l h : Tree) → Good 1 (node v l h) → (has_avoiding g l || ((is_member v && apart g (weight v)) && has_avoiding g h)) ≡ has_avoiding g (node v l h)
+node_found g v l h good =
+    ap (λ b. has_avoiding g l || ((b && apart g (weight v)) && has_avoiding g h)) (is_member_lem v good.fits.1)
+    ∙ found_parts (apart g (weight v)) (weight v) (first_avoiding g (groups h)) (first_avoiding g (groups l))
+    ∙ ap found (sym (first_node g v l h good.fits.1 (groups_below v h good.high)))
 
-pub told_more : (g : ℕ) (ts : List Tree) (n : ℕ) (bs : List Bool) (b : Bool) → n < length bs → Told g ts n bs → b ≡ found (first_avoiding g (groups (get_or ts n none))) → Told g ts (n + 1) (set bs n b)
-told_more g ts n bs b within told is =
-    below_more _ _
-    (λ k h. let ne : k ≢ n = omega arith in rw get_or-set_other (told k h))
-    (rw get_or-set_same is)
+-- the node of a diagram
+module _ (m : NodeMemory) (d : Diagram) (k : Node) (named : NamedNode (held m.interner) (seen d) (Some k)) where
+  abbrev at : (p : ℕ) × (Place p ≡ seen d) × Stands (held m.interner) k p
+  at = place_of (held m.interner) (seen d) k named
 
-module _ (m : NodeMemory) (p : ℕ) (k : Node) (stands : Stands (held m.interner) k p) (g : ℕ) where
-  node_good : Good 1 (node_tree (trees m) k)
-  node_good =
-      let within : p < length (trees m) = omega (arith, stands.within, length_decode node_tree (held m.interner)) in
-      (subst Proper (place_tree m p k none stands) (memory_proper m p none within)).good
+  abbrev low : Tree
+  low = tree_at (trees m) k.low
 
-  member_fits : Member k.member
-  member_fits = node_good.fits.1
+  abbrev high : Tree
+  high = tree_at (trees m) k.high
 
-  high_below : AllByRecursion (λ n. n < weight k.member) (groups (tree_at (trees m) k.high))
-  high_below = groups_below k.member (tree_at (trees m) k.high) node_good.high
+  good : Good 1 (node_tree (trees m) k)
+  good = node_good m at.0 k at.2
 
-  place_first : first_avoiding g (groups (get_or (trees m) p none)) ≡ or_else (with_member (apart g (weight k.member)) (weight k.member) (first_avoiding g (groups (tree_at (trees m) k.high)))) (first_avoiding g (groups (tree_at (trees m) k.low)))
-  place_first =
-      ap (λ t. first_avoiding g (groups t)) (place_tree m p k none stands)
-      ∙ first_node g k.member (tree_at (trees m) k.low) (tree_at (trees m) k.high) member_fits high_below
+  high_below : AllByRecursion (λ n. n < weight k.member) (groups high)
+  high_below = groups_below k.member high good.high
 
-  -- what is told of a node, from what is told of its parts
-  pub node_right : (bs : List Bool) → Told g (trees m) p bs → (finds_at bs (seen k.low) || ((is_member k.member && apart g (weight k.member)) && finds_at bs (seen k.high))) ≡ found (first_avoiding g (groups (get_or (trees m) p none)))
-  node_right bs told =
-      let names = place_names m p k stands in
-      let low = finds_right g (trees m) p bs told (seen k.low) names.0 in
-      let high = finds_right g (trees m) p bs told (seen k.high) names.1 in
-      let a = apart g (weight k.member) in
-      ap (λ b. finds_at bs (seen k.low) || ((b && a) && finds_at bs (seen k.high))) (is_member_lem k.member member_fits)
-      ∙ (λ i. low i || (a && high i))
-      ∙ found_parts a (weight k.member) (first_avoiding g (groups (tree_at (trees m) k.high))) (first_avoiding g (groups (tree_at (trees m) k.low)))
-      ∙ ap found (sym place_first)
+  -- its parts have smaller names, and denote their trees
+  pub named_falls : (k.low.code < d.code) × (k.high.code < d.code)
+  named_falls = (low_falls m d at.0 k at.1 at.2, high_falls m d at.0 k at.1 at.2)
 
-  module _ (bs : List Bool) (told : Told g (trees m) (length (trees m)) bs) where
-    high_right : finds_at bs (seen k.high) ≡ found (first_avoiding g (groups (tree_at (trees m) k.high)))
-    high_right = finds_right g (trees m) (length (trees m)) bs told (seen k.high) (place_within m p k stands).1
+  pub named_low : Denotes (trees m) k.low low
+  named_low = low_denotes m d at.0 k at.1 at.2
+
+  pub named_high : Denotes (trees m) k.high high
+  named_high = high_denotes m d at.0 k at.1 at.2
+
+  -- its member has a weight
+  module _ (o : Option ℕ) (u : ℕ) (is : o ≡ cond (is_member u) (Some (weight u)) None) (same : u ≡ k.member) where
+    pub named_some : o ≡ None → ⊥
+    named_some nothing = bit_some o u k.member nothing is same (is_member_lem k.member good.fits.1)
+
+    pub named_weight : (w : ℕ) → o ≡ Some w → w ≡ weight k.member
+    named_weight w some = bit_weight o u k.member w some is same (is_member_lem k.member good.fits.1)
+
+  module _ (g : ℕ) where
+    parts : (t : Tree) → Denotes (trees m) d t → or_else (with_member (apart g (weight k.member)) (weight k.member) (first_avoiding g (groups high))) (first_avoiding g (groups low)) ≡ first_avoiding g (groups t)
+    parts t den = sym (first_node g k.member low high good.fits.1 high_below) ∙ ap (λ s. first_avoiding g (groups s)) (sym (place_tree m at.0 k none at.2) ∙ denoted (trees m) d (Place at.0) t at.1 den)
+
+    high_told : (bs : List Bool) → Folded (has_avoiding g) (trees m) (length (trees m)) bs → value_at (has_avoiding g) bs (seen k.high) ≡ has_avoiding g high
+    high_told bs told = value_right (has_avoiding g) (trees m) (length (trees m)) bs told (seen k.high) named_high.within
 
     -- where the cells tell of a group on the high side, there is one
-    pub high_some : (b : Bool) (o : Option ℕ) → b ≡ finds_at bs (seen k.high) → b ≡ true → o ≡ first_avoiding g (groups (tree_at (trees m) k.high)) → o ≡ None → ⊥
-    high_some b o tells passes is nothing = both_ways b (tells ∙ high_right ∙ ap found (sym is ∙ nothing)) passes
+    pub high_some : (bs : List Bool) → Folded (has_avoiding g) (trees m) (length (trees m)) bs → (b : Bool) (o : Option ℕ) → b ≡ value_at (has_avoiding g) bs (seen k.high) → b ≡ true → o ≡ first_avoiding g (groups high) → o ≡ None → ⊥
+    high_some bs told b o tells passes is nothing = both_ways b (tells ∙ high_told bs told ∙ ap found (sym is ∙ nothing)) passes
 
-  -- a group of the high side with the member fits
-  pub sum_few : (w n : ℕ) (o : Option ℕ) → w ≡ weight k.member → o ≡ first_avoiding g (groups (tree_at (trees m) k.high)) → o ≡ Some n → w + n < 2 ^ 48
-  sum_few w n o e is some =
-      let below = first_less g n (weight k.member) (groups (tree_at (trees m) k.high)) high_below (sym some ∙ is) in
-      omega (arith, e, weight_few k.member n member_fits below)
+    -- a group of the high side with the member fits
+    pub sum_few : (w n : ℕ) (o : Option ℕ) → w ≡ weight k.member → o ≡ first_avoiding g (groups high) → o ≡ Some n → w + n < 2 ^ 48
+    sum_few w n o e is some =
+        let below = first_less g n (weight k.member) (groups high) high_below (sym some ∙ is) in
+        omega (arith, e, weight_few k.member n good.fits.1 below)
 
-  module _ (d : Diagram) (t : Tree) (is : Place p ≡ seen d) (den : Denotes (trees m) d t) where
-    first_parts : or_else (with_member (apart g (weight k.member)) (weight k.member) (first_avoiding g (groups (tree_at (trees m) k.high)))) (first_avoiding g (groups (tree_at (trees m) k.low))) ≡ first_avoiding g (groups t)
-    first_parts = sym place_first ∙ ap (λ s. first_avoiding g (groups s)) (denoted (trees m) d (Place p) t is den)
+    module _ (t : Tree) (den : Denotes (trees m) d t) where
+      -- the first group is that of high with the member, where the member is left out and high has one
+      pub first_high : (w n : ℕ) (a : Bool) (o : Option ℕ) → w ≡ weight k.member → a ≡ apart g w → a ≡ true → o ≡ first_avoiding g (groups high) → o ≡ Some n → Some (w + n) ≡ first_avoiding g (groups t)
+      first_high w n a o e tests passes is some =
+          ap (λ x. Some (x + n)) e
+          ∙ pick_high (apart g (weight k.member)) (weight k.member) n (first_avoiding g (groups high)) (first_avoiding g (groups low)) (ap (apart g) (sym e) ∙ sym tests ∙ passes) (sym some ∙ is)
+          ∙ parts t den
 
-    -- the first group is that of high with the member, where the member is left out and high has one
-    pub first_high : (w n : ℕ) (a : Bool) (o : Option ℕ) → w ≡ weight k.member → a ≡ apart g w → a ≡ true → o ≡ first_avoiding g (groups (tree_at (trees m) k.high)) → o ≡ Some n → Some (w + n) ≡ first_avoiding g (groups t)
-    first_high w n a o e tests passes high some =
-        ap (λ x. Some (x + n)) e
-        ∙ pick_high (apart g (weight k.member)) (weight k.member) n (first_avoiding g (groups (tree_at (trees m) k.high))) (first_avoiding g (groups (tree_at (trees m) k.low))) (ap (apart g) (sym e) ∙ sym tests ∙ passes) (sym some ∙ high)
-        ∙ first_parts
+      -- it is that of low where the member is not left out
+      pub first_barred : (w : ℕ) (a : Bool) (o : Option ℕ) → w ≡ weight k.member → a ≡ apart g w → a ≡ false → o ≡ first_avoiding g (groups low) → o ≡ first_avoiding g (groups t)
+      first_barred w a o e tests fails is =
+          is ∙ pick_barred (apart g (weight k.member)) (weight k.member) (first_avoiding g (groups high)) (first_avoiding g (groups low)) (ap (apart g) (sym e) ∙ sym tests ∙ fails) ∙ parts t den
 
-    -- it is that of low where the member is not left out
-    pub first_barred : (w : ℕ) (a : Bool) (o : Option ℕ) → w ≡ weight k.member → a ≡ apart g w → a ≡ false → o ≡ first_avoiding g (groups (tree_at (trees m) k.low)) → o ≡ first_avoiding g (groups t)
-    first_barred w a o e tests fails low =
-        low
-        ∙ pick_barred (apart g (weight k.member)) (weight k.member) (first_avoiding g (groups (tree_at (trees m) k.high))) (first_avoiding g (groups (tree_at (trees m) k.low))) (ap (apart g) (sym e) ∙ sym tests ∙ fails)
-        ∙ first_parts
-
-    -- and where high has none
-    pub first_low : (bs : List Bool) (b : Bool) (o : Option ℕ) → Told g (trees m) (length (trees m)) bs → b ≡ finds_at bs (seen k.high) → b ≡ false → o ≡ first_avoiding g (groups (tree_at (trees m) k.low)) → o ≡ first_avoiding g (groups t)
-    first_low bs b o told tells fails low =
-        low
-        ∙ pick_low (apart g (weight k.member)) (weight k.member) (first_avoiding g (groups (tree_at (trees m) k.high))) (first_avoiding g (groups (tree_at (trees m) k.low))) (sym (high_right bs told) ∙ sym tells ∙ fails)
-        ∙ first_parts
+      -- and where high has none
+      pub first_low : (bs : List Bool) → Folded (has_avoiding g) (trees m) (length (trees m)) bs → (b : Bool) (o : Option ℕ) → b ≡ value_at (has_avoiding g) bs (seen k.high) → b ≡ false → o ≡ first_avoiding g (groups low) → o ≡ first_avoiding g (groups t)
+      first_low bs told b o tells fails is =
+          is ∙ pick_low (apart g (weight k.member)) (weight k.member) (first_avoiding g (groups high)) (first_avoiding g (groups low)) (sym (high_told bs told) ∙ sym tells ∙ fails) ∙ parts t den

@@ -1,23 +1,21 @@
 -- A question that is opened: its script is what its first frame waits for, and what that goes on to do.
-use Rattle.std.proofs.Common.{◌≡◌, ℕ, List, sym, refl, ap, ◌∙◌, subst}
+use Rattle.std.proofs.Common.{◌≡◌, ℕ, List, sym, refl, ap, ◌∙◌}
 use Rattle.memos.specs.declared.diagram.Diagram.{Diagram}
-use Rattle.memos.specs.declared.question.Question.{Question}
 use Rattle.memos.specs.declared.question.Question.TheVariants.{Either, Both, Less, Turn, Off, On}
 use Rattle.families.specs.Trees.{Tree}
-use Rattle.families.specs.Questions.{Ask, either, both, less, turn, off, on, low_at, high_at, top}
+use Rattle.families.specs.Questions.{either, both, less, turn, off, on, low_at, high_at, top}
 use Rattle.families.specs.Scripts.{Script, script, builds, ask}
 use Rattle.diagrams.specs.declared.frames.Frame.{Frame}
-use Rattle.diagrams.specs.declared.frames.Frame.TheVariants.{EitherLow, BothLow, LessLow, TurnLow, OffLow, OnLow}
+use Rattle.diagrams.specs.declared.frames.Frame.TheVariants.{EitherLow, Both as InBoth, Less as InLess, Turn as InTurn, OffLow, OnLow}
+use Rattle.diagrams.specs.declared.frames.BothFrame.TheVariants.{Low as BothLow}
+use Rattle.diagrams.specs.declared.frames.LessFrame.TheVariants.{Low as LessLow}
+use Rattle.diagrams.specs.declared.frames.TurnFrame.TheVariants.{Low as TurnLow}
 use Rattle.diagrams.specs.declared.frames.Halves.{Halves}
 use Rattle.diagrams.specs.declared.frames.Wait.{Wait}
 use Rattle.diagrams.specs.NodeKeys.{tree_at}
 use Rattle.diagrams.specs.Building.{Denotes}
-use Rattle.diagrams.specs.Asking.{Asks, OperandsHeld, ask_at}
+use Rattle.diagrams.specs.Asking.{OperandsHeld, ask_at}
 use Rattle.diagrams.specs.Frames.{Awaits, FrameHeld, Halved, Waits, continuation}
-
--- what waits for the question over the trees of the operands waits for the question that is asked
-pub begun : (ts : List Tree) (w : Wait) (question question' : Question) (q : Ask) → question ≡ question' → Asks ts question q → (OperandsHeld ts question' → Waits ts w (script (ask_at ts question'))) → Waits ts w (script q)
-begun ts w question question' q e asks p = subst (λ x. Waits ts w (script x)) (sym (ap (ask_at ts) e) ∙ asks.is) (p (subst (OperandsHeld ts) e asks.held))
 
 -- a frame that waits for a script, to the letter
 waits_on : (ts : List Tree) (w : Wait) (s : Script) → s ≡ ask (ask_at ts w.question) (continuation ts w.frame) → OperandsHeld ts w.question → FrameHeld ts w.frame → Waits ts w s
@@ -47,7 +45,7 @@ module _ (ts : List Tree) (r : Halves) (s t : Tree) (halved : Halved ts r s t) w
       (halved.f_low.within, halved.g_low.within)
       (halved.f_high.within, halved.g_high.within)
 
-  pub begins_both : Waits ts (record { frame = BothLow r; question = Both r.f0 r.g0 }) (script (both s t))
+  pub begins_both : Waits ts (record { frame = InBoth (BothLow r); question = Both r.f0 r.g0 }) (script (both s t))
   unfolding script
   begins_both = waits_on ts _ _
       (over_halves (λ v f0 f1 g0 g1.
@@ -55,7 +53,7 @@ module _ (ts : List Tree) (r : Halves) (s t : Tree) (halved : Halved ts r s t) w
       (halved.f_low.within, halved.g_low.within)
       (halved.f_low.within, halved.f_high.within, halved.g_low.within, halved.g_high.within)
 
-  pub begins_less : Waits ts (record { frame = LessLow r.member r.f1 r.g0 r.g1; question = Less r.f0 r.g0 }) (script (less s t))
+  pub begins_less : Waits ts (record { frame = InLess (LessLow r.member r.f1 r.g0 r.g1); question = Less r.f0 r.g0 }) (script (less s t))
   unfolding script
   begins_less = waits_on ts _ _
       (over_halves (λ v f0 f1 g0 g1. ask (less f0 g0) (λ l. ask (less f1 g1) (λ x. ask (less x g0) (λ h. builds v l h)))) _ halved.at)
@@ -67,7 +65,7 @@ module _ (ts : List Tree) (v : ℕ) (f0 f1 : Diagram) (t : Tree) (at : v ≡ top
   over_parts : (body : ℕ → Tree → Tree → Script) → body (top t) (low_at (top t) t) (high_at (top t) t) ≡ body v (tree_at ts f0) (tree_at ts f1)
   over_parts body = ap (λ u. body u (low_at u t) (high_at u t)) (sym at) ∙ sym (λ i. body v (low.is i) (high.is i))
 
-  pub begins_turn : Waits ts (record { frame = TurnLow v f1; question = Turn f0 }) (script (turn t))
+  pub begins_turn : Waits ts (record { frame = InTurn (TurnLow v f1); question = Turn f0 }) (script (turn t))
   unfolding script
   begins_turn = waits_on ts _ _ (over_parts (λ w a b. ask (turn a) (λ x. ask (turn b) (λ y. ask (both x y) (λ l. ask (less x l) (λ h. builds w l h)))))) low.within high.within
 

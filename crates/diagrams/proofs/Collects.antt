@@ -1,6 +1,6 @@
 -- Throwing out: what is marked is what the roots reach, and what is marked has moved.
-use Rattle.std.proofs.Common.{◌≡◌, ℕ, zero, suc, ◌<◌, ◌≤◌, Bool, ◌||◌, List, ◌++◌, length, get_or, sym, refl, ap, ◌∙◌, subst, ⊎_elim, not-suc-le-zero, arith}
-use Rattle.std.proofs.lemmas.List.{get_or_default, get_or_past}
+use Rattle.std.proofs.Common.{◌≡◌, ℕ, zero, suc, ◌<◌, ◌≤◌, Bool, ◌||◌, List, ◌++◌, length, map, get_or, sym, refl, ap, ◌∙◌, subst, ⊎_elim, not-suc-le-zero, arith}
+use Rattle.std.proofs.lemmas.List.{get_or-map, get_or_default, get_or_past}
 use Rattle.std.proofs.lemmas.Bool.{cases_lt, false≢true}
 use Rattle.interning.specs.Distinct.{◌∈◌}
 use Rattle.interning.specs.Model.{held}
@@ -17,7 +17,7 @@ use Rattle.diagrams.specs.declared.nodes.NodeMemory.{NodeMemory}
 use Rattle.diagrams.specs.NodeKeys.{Below, tree_of, tree_at, node_tree}
 use Rattle.diagrams.specs.Memory.{trees}
 use Rattle.diagrams.specs.Building.{Denotes}
-use Rattle.diagrams.specs.Collecting.{nodes_in, reached, Collected, Marked, Marks, Sparing, Covers, ClosedFrom, Moved, moved_as}
+use Rattle.diagrams.specs.Collecting.{nodes_in, reached, Collected, Marked, Marks, Sparing, Covers, ClosedFrom, Moved, blank, moved_as}
 use Rattle.diagrams.proofs.Memories.{memory_each, place_names, place_tree}
 use Rattle.diagrams.proofs.Moves.{name_moved}
 use Rattle.diagrams.proofs.NodeTrees.{Nodal, below_rise}
@@ -29,11 +29,8 @@ denotes_in ts Never t p b e = absurd (false≢true (sym p ∙ sym (ap (λ s. is_
 denotes_in ts Always t p b e = absurd (false≢true (sym p ∙ sym (ap (λ s. is_none s || is_always s) e)))
 denotes_in ts (Place q) t p b e = stands_in ts t q (record { within = b; here = λ d. get_or_default ts q d none b ∙ e })
 
-blank : Diagram
-blank = record { code = 0 }
-
 blank_node : Node
-blank_node = record { member = 0; low = blank; high = blank }
+blank_node = record { member = 0; low = blank.moved; high = blank.moved }
 
 module _ (m : NodeMemory) (bs : List Bool) (closed : ClosedFrom (held m.interner) 0 bs) where
   abbrev AtMarked : Tree → Type 0
@@ -67,18 +64,19 @@ module _ (m : NodeMemory) (bs : List Bool) (closed : ClosedFrom (held m.interner
       ⊎_elim (λ (l : p < length (trees m)). l) (λ (h : length (trees m) ≤ p). absurd (subst (λ t. s ∈ nodes_in t) (get_or_past (trees m) p none h) i)) (cases_lt p (length (trees m)))
 
   pub collected : (rs : List Diagram) (ts' : List Tree) (ms rs' : List Diagram) → Sparing (trees m) rs bs → Covers (trees m) rs (length rs) bs → Moved (trees m) bs (length (trees m)) ts' ms
-      → ((i : ℕ) (d : Diagram) → i < length rs → get_or rs' i d ≡ moved_as ms (get_or rs i d) (seen (get_or rs i d))) → Collected (trees m) rs ts' rs'
+      → rs' ≡ map (λ d. moved_as ms d (seen d)) rs → Collected (trees m) rs ts' rs'
   collected rs ts' ms rs' sparing covers moved renamed = record {
     kept = λ i d t l den.
         let r = get_or rs i d in
         let new = name_moved (trees m) bs (length (trees m)) ts' ms moved r (seen r) refl den.within (covers i d l den.within) in
-        subst (λ x. Denotes ts' x t) (sym (renamed i d l)) (subst (Denotes ts' (moved_as ms r (seen r))) den.is new);
+        let is : get_or rs' i d ≡ moved_as ms r (seen r) = ap (λ xs. get_or xs i d) renamed ∙ get_or-map _ rs i d d l in
+        subst (λ x. Denotes ts' x t) (sym is) (subst (Denotes ts' (moved_as ms r (seen r))) den.is new);
     only = λ t i. let r = moved.only t i in subst (λ x. x ∈ reached (trees m) rs) r.3 (sparing r.0 r.1 r.2);
     all = λ s i.
-        let o = reached_from (trees m) rs blank s i in
-        let v = seen (get_or rs o.0 blank) in
+        let o = reached_from (trees m) rs blank.moved s i in
+        let v = seen (get_or rs o.0 blank.moved) in
         let b = held_root v s o.2 in
-        let at = marked_inside (length (trees m)) (omega arith) v b (covers o.0 blank o.1 b) s o.2 in
-        let new = moved.there at.0 blank at.1 at.2 in
-        subst (λ x. x ∈ ts') at.3 (denotes_in ts' (seen (get_or ms at.0 blank)) (get_or (trees m) at.0 none) (memory_each m at.0 none at.1) new.within new.is);
+        let at = marked_inside (length (trees m)) (omega arith) v b (covers o.0 blank.moved o.1 b) s o.2 in
+        let new = moved.there at.0 blank.moved at.1 at.2 in
+        subst (λ x. x ∈ ts') at.3 (denotes_in ts' (seen (get_or ms at.0 blank.moved)) (get_or (trees m) at.0 none) (memory_each m at.0 none at.1) new.within new.is);
   }

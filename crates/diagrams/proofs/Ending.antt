@@ -3,21 +3,22 @@ use Rattle.std.proofs.Common.{ℕ, suc, ◌+◌, ◌-◌, ◌*◌, List, ◌∷�
 use Rattle.interning.specs.Distinct.{◌∈◌}
 use Rattle.memos.specs.declared.diagram.Diagram.{Diagram}
 use Rattle.memos.specs.Notes.{Note, Noted}
-use Rattle.families.specs.Trees.{Tree}
+use Rattle.families.specs.Trees.{Tree, build}
 use Rattle.families.specs.Questions.{Ask}
-use Rattle.families.specs.Outcomes.{outcome, answer}
+use Rattle.families.specs.Outcomes.{made, outcome, answer}
 use Rattle.diagrams.specs.declared.solve.Step.TheVariants.{Answer as Answering}
-use Rattle.diagrams.specs.declared.solve.stack.Pending.{Pending}
+use Rattle.diagrams.specs.declared.solve.Pending.{Pending}
 use Rattle.diagrams.specs.Asking.{ask_at}
 use Rattle.diagrams.specs.Frames.{Builds, ahead}
-use Rattle.diagrams.specs.Solving.{AllRight, Closed, Chain, CountsOn, Due, HasNote, Joined, Steps, span, told, weight}
+use Rattle.diagrams.specs.Building.{Made}
+use Rattle.diagrams.specs.Solving.{AllRight, Closed, Chain, CountsOn, Due, HasNote, Steps, span, told, weight}
 use Rattle.diagrams.proofs.Stepping.{all_noted}
 use Rattle.diagrams.proofs.Taking.{take_ends, take_right, take_tells}
 use Rattle.diagrams.proofs.Tallying.{noted_closed, noted_here, noted_still, tally_ends}
 
 module _ (keeps keeps' : Type 0) (ts : List Tree) (ns : List Note) (xs : List Pending) (x : Pending) (d : Diagram) (due : Due ts (told keeps ts ns) (length xs) x d)
     (v : ℕ) (low high : Diagram) (b : Builds ts v low high (due.pends.then (answer due.next))) (ts' : List Tree) (built : Diagram)
-    (j : Joined ts v b.low_tree b.high_tree built ts') (ns' : List Note) (all : AllRight ts ns) (noted : Noted keeps keeps' ns ns' x.question built) where
+    (j : Made ts (build v b.low_tree b.high_tree) (made v b.low_tree b.high_tree) built ts') (ns' : List Note) (all : AllRight ts ns) (noted : Noted keeps keeps' ns ns' x.question built) where
   pub ends_notes : AllRight ts' ns'
   ends_notes = all_noted ts ts' ns ns' x.question built j.kept all (take_right ts (told keeps ts ns) xs x d due v low high b ts' built j) noted
 

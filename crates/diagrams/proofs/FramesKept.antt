@@ -11,7 +11,10 @@ use Rattle.families.specs.Questions.{Ask, either, both, less, turn, off, on}
 use Rattle.families.specs.Scripts.{Script, builds, ask}
 use Rattle.families.specs.Trees.{Tree, none}
 use Rattle.diagrams.specs.declared.frames.Frame.{Frame}
-use Rattle.diagrams.specs.declared.frames.Frame.TheVariants.{EitherLow, BothLow, BothHighHigh, BothHighLow, BothJoin, BothLowHigh, LessLow, LessHigh, TurnLow, TurnHigh, TurnBoth, OffLow, OnLow, Highs, High}
+use Rattle.diagrams.specs.declared.frames.Frame.TheVariants.{EitherLow, Both as InBoth, Less as InLess, Turn as InTurn, OffLow, OnLow, Highs, High}
+use Rattle.diagrams.specs.declared.frames.BothFrame.TheVariants.{Low as BothLow, HighHigh as BothHighHigh, HighLow as BothHighLow, Join as BothJoin, LowHigh as BothLowHigh}
+use Rattle.diagrams.specs.declared.frames.LessFrame.TheVariants.{Low as LessLow, High as LessHigh}
+use Rattle.diagrams.specs.declared.frames.TurnFrame.TheVariants.{Low as TurnLow, High as TurnHigh, Both as TurnBoth}
 use Rattle.diagrams.specs.declared.frames.Halves.{Halves}
 use Rattle.diagrams.specs.NodeKeys.{Below, tree_of, tree_at}
 use Rattle.diagrams.specs.Building.{Denotes}
@@ -58,16 +61,16 @@ module _ (ts ts' : List Tree) (kept : Kept ts ts') where
 
   frame_kept : (frame : Frame) → FrameHeld ts frame → FrameHeld ts' frame
   frame_kept (EitherLow v f1 g1) b = (held_kept f1 b.0, held_kept g1 b.1)
-  frame_kept (BothLow p) b = halves_kept p b
-  frame_kept (BothHighHigh p low) b = (halves_kept p b.0, held_kept low b.1)
-  frame_kept (BothHighLow v low f0 g1 first) b = (held_kept low b.0, held_kept f0 b.1, held_kept g1 b.2, held_kept first b.3)
-  frame_kept (BothJoin v low f0 g1) b = (held_kept low b.0, held_kept f0 b.1, held_kept g1 b.2)
-  frame_kept (BothLowHigh v low joined) b = (held_kept low b.0, held_kept joined b.1)
-  frame_kept (LessLow v f1 g0 g1) b = (held_kept f1 b.0, held_kept g0 b.1, held_kept g1 b.2)
-  frame_kept (LessHigh v low g0) b = (held_kept low b.0, held_kept g0 b.1)
-  frame_kept (TurnLow v f1) b = held_kept f1 b
-  frame_kept (TurnHigh v turned) b = held_kept turned b
-  frame_kept (TurnBoth v turned) b = held_kept turned b
+  frame_kept (InBoth (BothLow p)) b = halves_kept p b
+  frame_kept (InBoth (BothHighHigh p low)) b = (halves_kept p b.0, held_kept low b.1)
+  frame_kept (InBoth (BothHighLow p low first)) b = (halves_kept p b.0, held_kept low b.1, held_kept first b.2)
+  frame_kept (InBoth (BothJoin p low)) b = (halves_kept p b.0, held_kept low b.1)
+  frame_kept (InBoth (BothLowHigh v low first)) b = (held_kept low b.0, held_kept first b.1)
+  frame_kept (InLess (LessLow v f1 g0 g1)) b = (held_kept f1 b.0, held_kept g0 b.1, held_kept g1 b.2)
+  frame_kept (InLess (LessHigh v low g0)) b = (held_kept low b.0, held_kept g0 b.1)
+  frame_kept (InTurn (TurnLow v f1)) b = held_kept f1 b
+  frame_kept (InTurn (TurnHigh v turned)) b = held_kept turned b
+  frame_kept (InTurn (TurnBoth v turned)) b = held_kept turned b
   frame_kept (OffLow v f1 away) b = held_kept f1 b
   frame_kept (OnLow v f1 away) b = held_kept f1 b
   frame_kept (Highs v low) b = held_kept low b
@@ -79,27 +82,27 @@ module _ (ts ts' : List Tree) (kept : Kept ts ts') where
 
   continuation_kept : (frame : Frame) → FrameHeld ts frame → (t : Tree) → continuation ts' frame t ≡ continuation ts frame t
   continuation_kept (EitherLow v f1 g1) b l i = ask (either (tree_kept f1 b.0 i) (tree_kept g1 b.1 i)) (λ y. ask (less y l) (λ h. builds v l h))
-  continuation_kept (BothLow p) b l i =
+  continuation_kept (InBoth (BothLow p)) b l i =
       ask (both (tree_kept p.f1 b.1 i) (tree_kept p.g1 b.3 i)) (λ x.
       ask (both (tree_kept p.f1 b.1 i) (tree_kept p.g0 b.2 i)) (λ y.
       ask (either x y) (λ r.
       ask (both (tree_kept p.f0 b.0 i) (tree_kept p.g1 b.3 i)) (λ s.
       ask (either r s) (λ z. ask (less z l) (λ h. builds p.member l h))))))
-  continuation_kept (BothHighHigh p low) b x i =
+  continuation_kept (InBoth (BothHighHigh p low)) b x i =
       ask (both (tree_kept p.f1 b.0.1 i) (tree_kept p.g0 b.0.2 i)) (λ y.
       ask (either x y) (λ r.
       ask (both (tree_kept p.f0 b.0.0 i) (tree_kept p.g1 b.0.3 i)) (λ s. ask (either r s) (λ z. from_highs p.member low b.1 z i))))
-  continuation_kept (BothHighLow v low f0 g1 first) b q i =
-      ask (either (tree_kept first b.3 i) q) (λ r.
-      ask (both (tree_kept f0 b.1 i) (tree_kept g1 b.2 i)) (λ s. ask (either r s) (λ x. from_highs v low b.0 x i)))
-  continuation_kept (BothJoin v low f0 g1) b r i =
-      ask (both (tree_kept f0 b.1 i) (tree_kept g1 b.2 i)) (λ s. ask (either r s) (λ x. from_highs v low b.0 x i))
-  continuation_kept (BothLowHigh v low joined) b s i = ask (either (tree_kept joined b.1 i) s) (λ x. from_highs v low b.0 x i)
-  continuation_kept (LessLow v f1 g0 g1) b l i = ask (less (tree_kept f1 b.0 i) (tree_kept g1 b.2 i)) (λ x. ask (less x (tree_kept g0 b.1 i)) (λ h. builds v l h))
-  continuation_kept (LessHigh v low g0) b x i = ask (less x (tree_kept g0 b.1 i)) (λ h. builds v (tree_kept low b.0 i) h)
-  continuation_kept (TurnLow v f1) b a i = ask (turn (tree_kept f1 b i)) (λ c. ask (both a c) (λ l. ask (less a l) (λ h. builds v l h)))
-  continuation_kept (TurnHigh v turned) b c i = ask (both (tree_kept turned b i) c) (λ l. ask (less (tree_kept turned b i) l) (λ h. builds v l h))
-  continuation_kept (TurnBoth v turned) b l i = ask (less (tree_kept turned b i) l) (λ h. builds v l h)
+  continuation_kept (InBoth (BothHighLow p low first)) b q i =
+      ask (either (tree_kept first b.2 i) q) (λ r.
+      ask (both (tree_kept p.f0 b.0.0 i) (tree_kept p.g1 b.0.3 i)) (λ s. ask (either r s) (λ x. from_highs p.member low b.1 x i)))
+  continuation_kept (InBoth (BothJoin p low)) b r i =
+      ask (both (tree_kept p.f0 b.0.0 i) (tree_kept p.g1 b.0.3 i)) (λ s. ask (either r s) (λ x. from_highs p.member low b.1 x i))
+  continuation_kept (InBoth (BothLowHigh v low first)) b s i = ask (either (tree_kept first b.1 i) s) (λ x. from_highs v low b.0 x i)
+  continuation_kept (InLess (LessLow v f1 g0 g1)) b l i = ask (less (tree_kept f1 b.0 i) (tree_kept g1 b.2 i)) (λ x. ask (less x (tree_kept g0 b.1 i)) (λ h. builds v l h))
+  continuation_kept (InLess (LessHigh v low g0)) b x i = ask (less x (tree_kept g0 b.1 i)) (λ h. builds v (tree_kept low b.0 i) h)
+  continuation_kept (InTurn (TurnLow v f1)) b a i = ask (turn (tree_kept f1 b i)) (λ c. ask (both a c) (λ l. ask (less a l) (λ h. builds v l h)))
+  continuation_kept (InTurn (TurnHigh v turned)) b c i = ask (both (tree_kept turned b i) c) (λ l. ask (less (tree_kept turned b i) l) (λ h. builds v l h))
+  continuation_kept (InTurn (TurnBoth v turned)) b l i = ask (less (tree_kept turned b i) l) (λ h. builds v l h)
   continuation_kept (OffLow v f1 away) b l i = ask (off (tree_kept f1 b i) away) (λ h. builds v l h)
   continuation_kept (OnLow v f1 away) b l i = ask (on (tree_kept f1 b i) away) (λ h. builds v l h)
   continuation_kept (Highs v low) b x i = from_highs v low b x i

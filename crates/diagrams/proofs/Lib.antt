@@ -3,14 +3,15 @@ pub mod GoodTrees
 pub mod Memories
 pub mod Built
 pub mod Opened
+pub mod Folds
 pub mod Counts
 pub mod Reached
 pub mod Marks
 pub mod Moves
-pub mod Refills
 pub mod Collects
 pub mod Firsts
 pub mod Pages
+pub mod Walks
 pub mod Avoids
 pub mod FramesKept
 pub mod Begun
@@ -18,7 +19,6 @@ pub mod Sighted
 pub mod StackLists
 pub mod Settling
 pub mod Scripted
-pub mod Joining
 pub mod Measured
 pub mod Stepping
 pub mod Taking

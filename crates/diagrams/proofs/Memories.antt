@@ -54,9 +54,6 @@ module _ (m : NodeMemory) where
   pub names_held : (k : Node) → NamesBelow (length (trees m)) k → NamesBelow (length (held m.interner)) k
   names_held k = subst (λ n. NamesBelow n k) (length_decode node_tree (held m.interner))
 
-  pub held_names : (k : Node) → NamesBelow (length (held m.interner)) k → NamesBelow (length (trees m)) k
-  held_names k = subst (λ n. NamesBelow n k) (sym (length_decode node_tree (held m.interner)))
-
   -- to intern a node is to intern its tree
   pub lifted : (k : Node) (r : Result ℕ Full) (ks : List Node) → NamesBelow (length (trees m)) k → Interned (places m) (held m.interner) k r ks → Interned (places m) (trees m) (node_tree (trees m) k) r (decode node_tree ks)
   lifted k r ks names = decode_interned readable (held m.interner) k memory_rooted (held_apart m.interner m.sound) (names_held k names) _ r ks

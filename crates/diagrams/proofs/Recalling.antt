@@ -7,7 +7,7 @@ use Rattle.memos.specs.Notes.{Note, Recalled}
 use Rattle.families.specs.Questions.{Ask, sight, opens}
 use Rattle.families.proofs.Solving.{good_ask_member}
 use Rattle.diagrams.specs.declared.nodes.NodeMemory.{NodeMemory}
-use Rattle.diagrams.specs.declared.solve.stack.Pending.{Pending}
+use Rattle.diagrams.specs.declared.solve.Pending.{Pending}
 use Rattle.diagrams.specs.Asking.{Asks, ask_at}
 use Rattle.diagrams.specs.Memory.{trees}
 use Rattle.diagrams.specs.Solving.{AllRight, Settled, Arrives, HasNote, Closed, Chain, Puttable, Tally, CountsOn, told}

@@ -1,6 +1,5 @@
 -- What is held stays held where trees keep their places: answers, notes, and what open questions have done.
 use Rattle.std.proofs.Common.{◌≡◌, ℕ, List, [], ◌∷◌, ◌++◌, length, refl, ◌∙◌, inl, inr, ⊎_elim, arith}
-use Rattle.std.proofs.lemmas.List.{get_or_default}
 use Rattle.interning.specs.Distinct.{◌∈◌, Within}
 use Rattle.interning.specs.Places.{Kept}
 use Rattle.interning.proofs.Members.{in_stands, stands_in, in_left, in_right, in_either}
@@ -9,11 +8,11 @@ use Rattle.memos.specs.declared.diagram.View.{View}
 use Rattle.memos.specs.declared.diagram.View.TheVariants.{None as Never, Always, Node as Place}
 use Rattle.memos.specs.Diagrams.{seen}
 use Rattle.memos.specs.Notes.{Note}
-use Rattle.families.specs.Trees.{Tree, none, node}
+use Rattle.families.specs.Trees.{Tree, none}
 use Rattle.families.specs.Questions.{Ask}
 use Rattle.families.specs.Scripts.{Script}
 use Rattle.families.specs.Outcomes.{run, outcome, answer}
-use Rattle.diagrams.specs.declared.solve.stack.Pending.{Pending}
+use Rattle.diagrams.specs.declared.solve.Pending.{Pending}
 use Rattle.diagrams.specs.NodeKeys.{Below, tree_of}
 use Rattle.diagrams.specs.Building.{Denotes}
 use Rattle.diagrams.specs.Solving.{Settled, Right, AllRight, Left, Pends, Chain}
@@ -29,15 +28,6 @@ within_left xs ys zs f = within_joined xs zs (ys ++ zs) (λ t m. in_left ys zs t
 
 pub within_right : (xs ys zs : List Tree) → Within ys zs → Within (xs ++ ys) (xs ++ zs)
 within_right xs ys zs f = within_joined xs ys (xs ++ zs) (in_left xs zs) (λ t m. in_right xs zs t (f t m))
-
--- a diagram with the tree of a node names a place
-view_in : (ts : List Tree) (w : View) (v : ℕ) (l h : Tree) → Below (length ts) w → tree_of ts w ≡ node v l h → node v l h ∈ ts
-view_in ts Never v l h b e = let z : ◌≡◌ {A = ℕ} 0 1 = cc in absurd (omega arith)
-view_in ts Always v l h b e = let z : ◌≡◌ {A = ℕ} 0 1 = cc in absurd (omega arith)
-view_in ts (Place p) v l h b e = stands_in ts (node v l h) p (record { within = b; here = λ d. get_or_default ts p d none b ∙ e })
-
-pub denotes_in : (ts : List Tree) (d : Diagram) (v : ℕ) (l h : Tree) → Denotes ts d (node v l h) → node v l h ∈ ts
-denotes_in ts d v l h den = view_in ts (seen d) v l h den.within den.is
 
 pub kept_trans : (ts us vs : List Tree) → Kept ts us → Kept us vs → Kept ts vs
 kept_trans ts us vs k j = record {

@@ -1,10 +1,10 @@
--- The open questions of a stack, the newest first.
+-- The entries of a stack, the newest first.
 use Rattle.std.proofs.Common.{◌≡◌, ℕ, ◌+◌, ◌-◌, ◌<◌, ◌≤◌, List, [], ◌∷◌, reverse, length, get_or, take, set, sym, ap, ◌∙◌, arith, length-take}
 use mathlib.Core.List.{reverse-append}
 use lib.ListN.{length-reverse}
 use Rattle.std.proofs.lemmas.List.{take_more, take_more_set}
-use Rattle.diagrams.specs.declared.solve.stack.Stack.{Stack}
-use Rattle.diagrams.specs.Stacks.{pending}
+use Rattle.diagrams.specs.declared.stack.Stack.{Stack}
+use Rattle.diagrams.specs.Stacks.{stacked}
 
 module _ {X : Type 0} (xs : List X) (d : ℕ) where
   newest_length : d ≤ length xs → length (reverse (take d xs)) ≡ d
@@ -18,5 +18,5 @@ module _ {X : Type 0} (xs : List X) (d : ℕ) where
       let e : d - 1 + 1 ≡ d = omega arith in
       ap (λ k. reverse (take k xs)) (sym e) ∙ ap reverse (take_more xs (d - 1) x (omega arith)) ∙ reverse-append (take (d - 1) xs) (get_or xs (d - 1) x ∷ [])
 
-pub pending_length : (s : Stack) → length (pending s) ≡ s.depth
-pending_length s = newest_length s.frames s.depth (omega (arith, s.within, s.size))
+pub stacked_length : {T : Type 0} → (s : Stack T) → length (stacked s) ≡ s.depth
+stacked_length s = newest_length s.entries s.depth (omega (arith, s.within, s.size))

@@ -7,7 +7,7 @@ use Rattle.interning.proofs.Places.{kept_same}
 use Rattle.memos.specs.declared.diagram.Diagram.{Diagram}
 use Rattle.memos.specs.declared.question.Question.{Question}
 use Rattle.memos.specs.Notes.{Note, Noted}
-use Rattle.families.specs.Trees.{Tree}
+use Rattle.families.specs.Trees.{Tree, build}
 use Rattle.families.specs.Good.{Good}
 use Rattle.families.specs.Questions.{Ask, sight, opens, split_at}
 use Rattle.families.specs.Scripts.{Script, builds, script}
@@ -16,11 +16,11 @@ use Rattle.families.specs.Meanings.{GoodAsk}
 use Rattle.families.proofs.Solving.{good_ask_member}
 use Rattle.diagrams.specs.declared.frames.Wait.{Wait}
 use Rattle.diagrams.specs.declared.solve.Step.TheVariants.{Ask as Asking, Answer as Answering}
-use Rattle.diagrams.specs.declared.solve.stack.Pending.{Pending}
+use Rattle.diagrams.specs.declared.solve.Pending.{Pending}
 use Rattle.diagrams.specs.Asking.{Asks, ask_at}
-use Rattle.diagrams.specs.Building.{Denotes, Fitting}
+use Rattle.diagrams.specs.Building.{Denotes, Fitting, Lacks, Made}
 use Rattle.diagrams.specs.Frames.{Waits, Builds, ahead}
-use Rattle.diagrams.specs.Solving.{Settled, Right, AllRight, Grows, Lacks, Joined, Arrives, Left, Pends, Chain, Puttable, Steps, span, weight}
+use Rattle.diagrams.specs.Solving.{Settled, Right, AllRight, Grows, Arrives, Left, Pends, Chain, Puttable, Steps, span, weight}
 use Rattle.diagrams.proofs.Built.{build_is}
 use Rattle.diagrams.proofs.Settling.{within_joined, within_right, kept_within, right_kept, chain_kept}
 use Rattle.diagrams.proofs.Scripted.{split_below, left_begins, left_inside, left_part, built_good, built_answer, built_cover, built_others, built_part}
@@ -107,7 +107,7 @@ module _ (ts : List Tree) (T : Ask → Type 0) (q : Ask) (v : ℕ) (low high : D
     good = subst (Good 1) (sym (build_is ts v low high b.low_tree b.high_tree b.low_is b.high_is)) (built_good ts T q v b.low_tree b.high_tree rest);
   }
 
-  module _ (ts' : List Tree) (d : Diagram) (j : Joined ts v b.low_tree b.high_tree d ts') where
+  module _ (ts' : List Tree) (d : Diagram) (j : Made ts (build v b.low_tree b.high_tree) (made v b.low_tree b.high_tree) d ts') where
     pub built_settled : Settled ts' d q
     built_settled = record {
       denotes = subst (Denotes ts' d) (built_answer ts T q v b.low_tree b.high_tree rest) j.denotes;

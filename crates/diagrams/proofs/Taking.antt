@@ -3,18 +3,18 @@ use Rattle.std.proofs.Common.{◌≡◌, ℕ, suc, ◌+◌, ◌-◌, ◌*◌, �
 use Rattle.interning.specs.declared.interner.Full.{Full}
 use Rattle.interning.specs.Distinct.{◌∈◌}
 use Rattle.memos.specs.declared.diagram.Diagram.{Diagram}
-use Rattle.families.specs.Trees.{Tree}
+use Rattle.families.specs.Trees.{Tree, build}
 use Rattle.families.specs.Questions.{Ask}
 use Rattle.families.specs.Scripts.{Script}
 use Rattle.families.specs.Outcomes.{made, outcome, answer}
 use Rattle.diagrams.specs.declared.frames.Wait.{Wait}
 use Rattle.diagrams.specs.declared.solve.Step.{Step}
 use Rattle.diagrams.specs.declared.solve.Step.TheVariants.{Ask as Asking, Answer as Answering}
-use Rattle.diagrams.specs.declared.solve.stack.Pending.{Pending}
+use Rattle.diagrams.specs.declared.solve.Pending.{Pending}
 use Rattle.diagrams.specs.Asking.{ask_at}
-use Rattle.diagrams.specs.Building.{Fitting}
+use Rattle.diagrams.specs.Building.{Fitting, Lacks, Made}
 use Rattle.diagrams.specs.Frames.{Waits, Builds, ahead}
-use Rattle.diagrams.specs.Solving.{Right, Grows, Lacks, Joined, Left, Due, Steps, Takes, span, weight}
+use Rattle.diagrams.specs.Solving.{Right, Grows, Left, Due, Steps, Takes, span, weight}
 use Rattle.diagrams.proofs.FramesKept.{asks_kept}
 use Rattle.diagrams.proofs.Scripted.{split_below, left_goes}
 use Rattle.diagrams.proofs.Measured.{ending_falls}
@@ -52,7 +52,7 @@ module _ (ts : List Tree) (T : Ask → Type 0) (xs : List Pending) (x : Pending)
     pub take_lacks : (cap : ℕ) (ts' : List Tree) → Lacks cap ts (made v b.low_tree b.high_tree) ts' → Lacks cap ts (outcome (ask_at ts x.question)).built ts'
     take_lacks cap ts' k = subst (λ (q : Ask). Lacks cap ts (outcome q).built ts') (sym due.pends.asks.is) (built_lacks ts T due.this v low high rest rest_left b cap ts' k)
 
-    module _ (ts' : List Tree) (built : Diagram) (j : Joined ts v b.low_tree b.high_tree built ts') where
+    module _ (ts' : List Tree) (built : Diagram) (j : Made ts (build v b.low_tree b.high_tree) (made v b.low_tree b.high_tree) built ts') where
       pub take_grows : Grows ts ts' (ask_at ts x.question)
       take_grows = subst (Grows ts ts') (sym due.pends.asks.is) (built_grows ts T due.this v low high rest rest_left b ts' built j)
 
@@ -69,7 +69,7 @@ module _ (ts : List Tree) (T : Ask → Type 0) (xs : List Pending) (x : Pending)
     take_tells T' more here r m =
         ⊎_elim (λ (e : r ≡ due.this). subst T' (sym e) here) (λ (h : T r). more r h) (built_tells ts T due.this v low high rest rest_left b r m)
 
-    pub take_ends : (ts' : List Tree) (built : Diagram) → Joined ts v b.low_tree b.high_tree built ts' → (T' : Ask → Type 0) → ((r : Ask) → T r → T' r) → T' due.this
+    pub take_ends : (ts' : List Tree) (built : Diagram) → Made ts (build v b.low_tree b.high_tree) (made v b.low_tree b.high_tree) built ts' → (T' : Ask → Type 0) → ((r : Ask) → T r → T' r) → T' due.this
         → Steps ts T ts' T' (ask_at ts x.question) xs xs (suc (ahead x.frame) * span (48 - length xs) + weight xs) (Answering built)
     take_ends ts' built j T' more here =
         subst (λ q. Steps ts T ts' T' q xs xs (suc (ahead x.frame) * span (48 - length xs) + weight xs) (Answering built)) (sym due.pends.asks.is)

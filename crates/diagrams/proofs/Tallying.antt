@@ -14,7 +14,7 @@ use Rattle.families.specs.Questions.{Ask, sight, opens, split_at}
 use Rattle.families.specs.Outcomes.{outcome}
 use Rattle.families.specs.Meanings.{GoodAsk}
 use Rattle.diagrams.specs.declared.nodes.NodeMemory.{NodeMemory}
-use Rattle.diagrams.specs.declared.solve.stack.Pending.{Pending}
+use Rattle.diagrams.specs.declared.solve.Pending.{Pending}
 use Rattle.diagrams.specs.Asking.{Asks}
 use Rattle.diagrams.specs.Memory.{trees}
 use Rattle.diagrams.specs.Solving.{AllRight, HasNote, Closed, Chain, IsOpen, Tally, Tallied}
@@ -164,15 +164,25 @@ module _ (keeps keeps' : Type 0) (ts ts' : List Tree) (kept : Kept ts ts') (ns n
   }
 
 -- the work is done
-pub tally_done : (ts : List Tree) (ns : List Note) (ts' : List Tree) (ns' : List Note) (q : Ask) (xs : List Pending) (n : ℕ)
-    → ((r : Ask) → r ∈ (outcome q).asked → HasNote ts' ns' r) → Tally ts ns ts' ns' q xs n → Tallied ts ns q n
-tally_done ts ns ts' ns' q xs n tells t = record { list = t.list; count = t.count; once = t.once; only = t.only; all = λ p m. t.back p (tells p m) }
+pub tally_done : (ts : List Tree) (ns : List Note) (ts' : List Tree) (ns' : List Note) (q : Ask) (n : ℕ)
+    → ((r : Ask) → r ∈ (outcome q).asked → HasNote ts' ns' r) → Tally ts ns ts' ns' q [] n → Tallied ts ns ts' ns' (outcome q).asked n
+tally_done ts ns ts' ns' q n tells t = record {
+  list = t.list;
+  count = t.count;
+  once = t.once;
+  only = t.only;
+  all = λ p m. t.back p (tells p m);
+  still = t.still;
+  new = λ p m. ⊎_elim (λ (h : HasNote ts' ns' p). h) (λ (o : IsOpen ts' [] p). absurd o.1) (t.state p m);
+  back = t.back;
+}
 
 -- where nothing was noted before, all different questions were opened
-pub tallied_fresh : (same : Ask → Ask → Bool) → Exact same → (ts : List Tree) (q : Ask) (n : ℕ) → Tallied ts [] q n → n ≡ min (length (distinct same (outcome q).asked)) (2 ^ 64 - 1)
-tallied_fresh same exact ts q n t =
-    let counted = counts Ask same exact t.list (outcome q).asked t.once (λ p m. (t.only p m).0) in
-    let long : length t.list ≡ length (distinct same (outcome q).asked) = counted.all (λ p m. ⊎_elim (λ (h : HasNote ts [] p). absurd h.1) (λ (k : p ∈ t.list). k) (t.all p m)) in
+pub tallied_fresh : (same : Ask → Ask → Bool) → Exact same → (ts ts' : List Tree) (ns' : List Note) (asked : List Ask) (n : ℕ) → Tallied ts [] ts' ns' asked n
+    → n ≡ min (length (distinct same asked)) (2 ^ 64 - 1)
+tallied_fresh same exact ts ts' ns' asked n t =
+    let counted = counts Ask same exact t.list asked t.once (λ p m. (t.only p m).0) in
+    let long : length t.list ≡ length (distinct same asked) = counted.all (λ p m. ⊎_elim (λ (h : HasNote ts [] p). absurd h.1) (λ (k : p ∈ t.list). k) (t.all p m)) in
     t.count ∙ ap (λ k. min k (2 ^ 64 - 1)) long
 
 -- no note is closed, and notes stay so where trees keep their places

@@ -1,6 +1,6 @@
 -- The work on one question, from its first step to its answer.
-use Rattle.std.proofs.Common.{◌≡◌, ℕ, ◌<◌, true, List, [], ◌∷◌, ◌++◌, length, sym, refl, subst, arith}
-use Rattle.interning.specs.Distinct.{Within, Exact, NoRepeat, distinct}
+use Rattle.std.proofs.Common.{◌≡◌, ℕ, ◌<◌, ◌≤◌, true, List, [], ◌∷◌, ◌++◌, length, sym, refl, subst, arith}
+use Rattle.interning.specs.Distinct.{Within, Exact, NoRepeat}
 use Rattle.interning.proofs.Distinct.{counts}
 use Rattle.interning.proofs.Members.{in_right}
 use Rattle.memos.specs.declared.diagram.Diagram.{Diagram}
@@ -13,10 +13,11 @@ use Rattle.families.specs.Meanings.{GoodAsk}
 use Rattle.families.proofs.Sights.{equal_is, equal_self}
 use Rattle.diagrams.specs.declared.solve.Step.{Step}
 use Rattle.diagrams.specs.declared.solve.Step.TheVariants.{Ask as Asking, Answer as Answering}
-use Rattle.diagrams.specs.declared.solve.stack.Pending.{Pending}
+use Rattle.diagrams.specs.declared.solve.Pending.{Pending}
 use Rattle.diagrams.specs.Asking.{Asks, ask_at}
-use Rattle.diagrams.specs.Solving.{Arrives, Closed, CountsOn, Grows, Lacks, Chain, Due, Puttable, Runs, Tally, Tallied, Works, Steps, load, told}
-use Rattle.diagrams.proofs.Settling.{within_joined, kept_trans}
+use Rattle.diagrams.specs.Building.{Lacks}
+use Rattle.diagrams.specs.Solving.{Arrives, Closed, CountsOn, Grows, Chain, Due, Puttable, Runs, Tally, Tallied, Works, Steps, load, needed, told}
+use Rattle.diagrams.proofs.Settling.{within_joined, kept_trans, kept_within}
 use Rattle.diagrams.proofs.Stepping.{chain_part, grows_none}
 use Rattle.diagrams.proofs.Tallying.{tally_done, tally_start}
 
@@ -69,8 +70,15 @@ module _ (keeps : Type 0) (ts : List Tree) (ns : List Note) (ts' : List Tree) (n
     pub works_ended : ys ≡ [] → Arrives ts' (told keeps ts' ns') d w.final
     works_ended i = subst (Arrives ts' (told keeps ts' ns') d) (subst (λ zs. Chain ts' (told keeps ts' ns') w.final zs arrived.0) i arrived.2) arrived.1
 
-    pub works_tallied : ys ≡ [] → keeps → Tallied ts ns w.final n
-    works_tallied i k = tally_done ts ns ts' ns' w.final ys n (λ r m. (works_ended i).tells r m k) (w.tally k)
+    pub works_tallied : ys ≡ [] → keeps → Tallied ts ns ts' ns' (outcome w.final).asked n
+    works_tallied i k = tally_done ts ns ts' ns' w.final n (λ r m. (works_ended i).tells r m k) (subst (λ zs. Tally ts ns ts' ns' w.final zs n) i (w.tally k))
+
+    -- what was held and what was built had places
+    pub works_enough : ys ≡ [] → (cap : ℕ) → NoRepeat ts' → length ts' ≤ cap → needed ts w.final ≤ cap
+    works_enough i cap once few =
+        let all : Within (ts ++ (outcome w.final).built) ts' = within_joined ts (outcome w.final).built ts' (kept_within ts ts' w.grows.kept) (works_ended i).settled.held in
+        let counted = counts Tree equal equal_exact ts' (ts ++ (outcome w.final).built) once w.grows.only in
+        omega (arith, counted.all all)
 
     -- x is the newest open question
     module _ (x : Pending) (xs : List Pending) (i : ys ≡ x ∷ xs) where
@@ -107,7 +115,7 @@ module _ (keeps : Type 0) (ts : List Tree) (ns : List Note) (ts' : List Tree) (n
       works_falls k h = subst (λ s. k < load ys s) (sym e) (subst (λ zs. k < load zs (Answering d)) (sym i) h)
 
       -- there is no place for what is built
-      pub works_short : (cap : ℕ) (ts'' : List Tree) → NoRepeat ts' → Lacks cap ts' (outcome (ask_at ts' x.question)).built ts'' → cap < length (distinct equal (ts ++ (outcome w.final).built))
+      pub works_short : (cap : ℕ) (ts'' : List Tree) → NoRepeat ts' → Lacks cap ts' (outcome (ask_at ts' x.question)).built ts'' → cap < needed ts w.final
       works_short cap ts'' once k =
           let counted = counts Tree equal equal_exact ts' (ts ++ (outcome w.final).built) once w.grows.only in
           let full = k.full in

@@ -1,9 +1,7 @@
 -- The groups of a diagram that share no member with a given group.
-use Rattle.std.specs.Prelude.{◌≡◌, ℕ, ◌<◌, ◌≤◌, Bool, true, false, cond, List, [], ◌∷◌, length, Some, None, Ok, Err, Option, Result, ◌==◌, bit_and, slice_index_or}
+use Rattle.std.specs.Prelude.{◌≡◌, ℕ, ◌<◌, ◌≤◌, Bool, true, false, cond, List, [], ◌∷◌, length, Some, None, Ok, Err, Option, Result, ◌==◌, bit_and}
 use Rattle.memos.specs.declared.diagram.Diagram.{Diagram}
-use Rattle.memos.specs.declared.diagram.View.{View}
-use Rattle.memos.specs.declared.diagram.View.TheVariants.{None as Never, Always, Node as Place}
-use Rattle.families.specs.Trees.{Tree, none, groups}
+use Rattle.families.specs.Trees.{Tree, groups}
 use Rattle.diagrams.specs.declared.nodes.TooFewCells.{TooFewCells}
 use Rattle.diagrams.specs.Building.{Denotes}
 
@@ -21,15 +19,9 @@ abbrev pub found : Option ℕ → Bool
 found (Some n) = true
 found None = false
 
--- whether a name has a group to find, where the cells of the places tell it of theirs
-abbrev pub finds_at : List Bool → View → Bool
-finds_at bs Never = false
-finds_at bs Always = true
-finds_at bs (Place p) = slice_index_or bs p false
-
--- the cell of each of the first n places tells whether one of its groups shares no member with g
-abbrev pub Told : ℕ → List Tree → ℕ → List Bool → Type 0
-Told g ts n bs = (p : ℕ) → p < n → slice_index_or bs p false ≡ found (first_avoiding g (groups (slice_index_or ts p none)))
+-- whether a tree has a group that shares no member with g
+abbrev pub has_avoiding : ℕ → Tree → Bool
+has_avoiding g t = found (first_avoiding g (groups t))
 
 -- the first group of a diagram of the trees ts that shares no member with g, refused where there are fewer cells than trees
 abbrev pub Avoided : ℕ → List Tree → Diagram → ℕ → Result (Option ℕ) TooFewCells → Type 0

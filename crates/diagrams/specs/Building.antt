@@ -1,12 +1,16 @@
 -- Diagrams over the trees of a node memory, and how one is built.
-use Rattle.std.specs.Prelude.{◌≡◌, ℕ, true, ◌||◌, ◌⊎◌, List, [], ◌∷◌, ◌++◌, length, Some, None, Ok, Err, Option, Result}
+use Rattle.std.specs.Prelude.{◌≡◌, ℕ, ◌≤◌, true, cond, ◌||◌, List, [], ◌∷◌, ◌++◌, length, Some, None, Ok, Err, Option, Result}
 use Rattle.interning.specs.declared.interner.Full.{Full}
-use Rattle.interning.specs.Interned.{Refused}
-use Rattle.interning.specs.Places.{Kept}
+use Rattle.interning.specs.Distinct.{◌∈◌, Within}
+use Rattle.interning.specs.Places.{Kept, Read}
 use Rattle.memos.specs.declared.diagram.Diagram.{Diagram}
+use Rattle.memos.specs.declared.diagram.View.{View}
+use Rattle.memos.specs.declared.diagram.View.TheVariants.{None as Never, Always, Node as Place}
 use Rattle.memos.specs.Diagrams.{seen}
-use Rattle.families.specs.Trees.{Tree, build, is_none, is_always}
+use Rattle.families.specs.Groups.{is_member}
+use Rattle.families.specs.Trees.{Tree, none, alone, build, is_none, is_always}
 use Rattle.families.specs.Good.{Good}
+use Rattle.families.specs.Outcomes.{made}
 use Rattle.diagrams.specs.declared.node.Node.{Node}
 use Rattle.diagrams.specs.NodeKeys.{Below, NamesBelow, tree_at, node_tree}
 
@@ -21,16 +25,43 @@ pub record Fitting (ts : List Tree) (v : ℕ) (low high : Diagram) : Type 0 wher
   pub high_held : Below (length ts) (seen high)
   pub good : Good 1 (build v (tree_at ts low) (tree_at ts high))
 
--- d has the tree t, every place keeps its tree, and no tree is added but t
-pub record Placed (ts : List Tree) (t : Tree) (d : Diagram) (ts' : List Tree) : Type 0 where
+-- d has the tree t, the nodes us are held, every place keeps its tree, and nothing else is added
+pub record Made (ts : List Tree) (t : Tree) (us : List Tree) (d : Diagram) (ts' : List Tree) : Type 0 where
   pub denotes : Denotes ts' d t
   pub kept : Kept ts ts'
-  pub change : (ts' ≡ ts) ⊎ (ts' ≡ ts ++ (t ∷ []))
+  pub there : Within us ts'
+  pub only : Within ts' (ts ++ us)
 
--- From the trees ts, with cap places, to build t answers r and leaves the trees ts'.
-abbrev pub Built : ℕ → List Tree → Tree → Result Diagram Full → List Tree → Type 0
-Built cap ts t (Ok d) ts' = Placed ts t d ts'
-Built cap ts t (Err e) ts' = Refused cap ts t ts'
+-- no place is free, one of the nodes us is not held, and nothing changes
+pub record Lacks (cap : ℕ) (ts us ts' : List Tree) : Type 0 where
+  pub full : cap ≤ length ts
+  pub missing : Tree
+  pub among : missing ∈ us
+  pub absent : missing ∈ ts → ⊥
+  pub same : ts' ≡ ts
+
+-- From the trees ts, with cap places, the tree t is made with the nodes us, or one of these lacks a place.
+abbrev pub Makes : ℕ → List Tree → Tree → List Tree → Result Diagram Full → List Tree → Type 0
+Makes cap ts t us (Ok d) ts' = Made ts t us d ts'
+Makes cap ts t us (Err e) ts' = Lacks cap ts us ts'
+
+-- the tree over l and h is made: low where high is none, else the one node
+abbrev pub Joins : ℕ → List Tree → ℕ → Tree → Tree → Result Diagram Full → List Tree → Type 0
+Joins cap ts v l h = Makes cap ts (build v l h) (made v l h)
+
+-- the family whose only group is the member v alone, and the empty family where v is no member
+abbrev pub single_tree : ℕ → Tree
+single_tree v = cond (is_member v) (alone v) none
+
+-- the nodes in it: one, or none
+abbrev pub single_made : ℕ → List Tree
+single_made v = cond (is_member v) (alone v ∷ []) []
+
+-- what stands at the place that a name has, or none where it has none or is past the end
+abbrev pub NamedNode : List Node → View → Option Node → Type 0
+NamedNode ks Never o = o ≡ None
+NamedNode ks Always o = o ≡ None
+NamedNode ks (Place p) o = Read ks p o
 
 -- the node of the tree t, over places that are held, or none where t is none or always
 abbrev pub Opened : List Tree → Tree → Option Node → Type 0

@@ -1,14 +1,16 @@
 -- Throwing out: what given roots reach, and what is held when everything else is thrown out.
-use Rattle.std.specs.Prelude.{◌≡◌, ℕ, ◌<◌, ◌≤◌, Bool, true, false, List, [], ◌∷◌, ◌++◌, length, take, slice_index_or, slice_set}
-use Rattle.interning.specs.Decode.{decode}
+use Rattle.std.specs.Prelude.{◌≡◌, ℕ, ◌<◌, ◌≤◌, Bool, true, false, List, [], ◌∷◌, ◌++◌, length, map, Some, None, Ok, Err, Option, Result, cond, is_some, nat_lt, slice_index_or, slice_set}
 use Rattle.interning.specs.Distinct.{◌∈◌, Within}
+use Rattle.interning.specs.Places.{Stands}
 use Rattle.memos.specs.declared.diagram.Diagram.{Diagram}
 use Rattle.memos.specs.declared.diagram.View.{View}
 use Rattle.memos.specs.declared.diagram.View.TheVariants.{None as Never, Always, Node as Place}
 use Rattle.memos.specs.Diagrams.{seen}
 use Rattle.families.specs.Trees.{Tree, none, always, node}
 use Rattle.diagrams.specs.declared.node.Node.{Node}
-use Rattle.diagrams.specs.NodeKeys.{Below, tree_at, node_tree}
+use Rattle.diagrams.specs.declared.nodes.Cell.{Cell}
+use Rattle.diagrams.specs.declared.nodes.TooFewCells.{TooFewCells}
+use Rattle.diagrams.specs.NodeKeys.{Below, tree_at}
 use Rattle.diagrams.specs.Building.{Denotes}
 
 -- the nodes in a tree, itself included
@@ -28,6 +30,21 @@ pub record Collected (ts : List Tree) (roots : List Diagram) (ts' : List Tree) (
   pub only : Within ts' (reached ts roots)
   pub all : Within (reached ts roots) ts'
 
+-- a cell of which nothing is kept
+abbrev pub blank : Cell
+blank = record { node = None; moved = record { code = 0 } }
+
+-- the nodes that cells keep, and the names that they tell
+abbrev pub copies : List Cell → List (Option Node)
+copies cs = map (λ c. c.node) cs
+
+abbrev pub moves : List Cell → List Diagram
+moves cs = map (λ c. c.moved) cs
+
+-- a place is marked if its cell keeps a node
+abbrev pub marks : List Cell → List Bool
+marks cs = map (λ c. is_some c.node) cs
+
 -- the place p is marked
 abbrev pub Marked : List Bool → ℕ → Type 0
 Marked bs p = slice_index_or bs p false ≡ true
@@ -38,11 +55,11 @@ Marks bs Never = Unit {0}
 Marks bs Always = Unit {0}
 Marks bs (Place p) = Marked bs p
 
--- the marks with that of a name set
-abbrev pub marked_by : List Bool → View → List Bool
-marked_by bs Never = bs
-marked_by bs Always = bs
-marked_by bs (Place p) = slice_set bs p true
+-- the marks with that of a name set, if its place is one of the first n
+abbrev pub marked_by : ℕ → List Bool → View → List Bool
+marked_by n bs Never = bs
+marked_by n bs Always = bs
+marked_by n bs (Place p) = cond (nat_lt p n) (slice_set bs p true) bs
 
 -- only places are marked whose trees are among those reached
 abbrev pub Sparing : List Tree → List Diagram → List Bool → Type 0
@@ -56,6 +73,10 @@ Covers ts roots n bs = (i : ℕ) (d : Diagram) → i < n → Below (length ts) (
 abbrev pub ClosedFrom : List Node → ℕ → List Bool → Type 0
 ClosedFrom ks n bs = (p : ℕ) (d : Node) → n ≤ p → p < length ks → Marked bs p → Marks bs (seen (slice_index_or ks p d).low) × Marks bs (seen (slice_index_or ks p d).high)
 
+-- what is kept of a place is the node that stands there
+abbrev pub Copied : List Node → List (Option Node) → Type 0
+Copied ks os = (p : ℕ) (k : Node) → p < length ks → slice_index_or os p None ≡ Some k → Stands ks k p
+
 -- the name under which a diagram goes after its place has moved
 abbrev pub moved_as : List Diagram → Diagram → View → Diagram
 moved_as ms d Never = d
@@ -67,11 +88,7 @@ pub record Moved (ts : List Tree) (bs : List Bool) (n : ℕ) (ts' : List Tree) (
   pub there : (p : ℕ) (d : Diagram) → p < n → Marked bs p → Denotes ts' (slice_index_or ms p d) (slice_index_or ts p none)
   pub only : (t : Tree) → t ∈ ts' → (p : ℕ) × (p < n) × Marked bs p × (slice_index_or ts p none ≡ t)
 
--- the trees of the first n nodes
-abbrev pub trees_of : ℕ → List Node → List Tree
-trees_of n ks = decode node_tree (take n ks)
-
 -- Where there are cells enough everything that no root reaches is thrown out, and else nothing is done.
-abbrev pub ThrownOut : ℕ → List Tree → List Diagram → List Tree → List Diagram → Bool → Type 0
-ThrownOut cells ts roots ts' roots' true = Collected ts roots ts' roots'
-ThrownOut cells ts roots ts' roots' false = (cells < length ts) × (ts' ≡ ts) × (roots' ≡ roots)
+abbrev pub ThrownOut : ℕ → List Tree → List Diagram → List Tree → List Diagram → Result (Unit {0}) TooFewCells → Type 0
+ThrownOut cells ts roots ts' roots' (Ok u) = (length ts ≤ cells) × Collected ts roots ts' roots'
+ThrownOut cells ts roots ts' roots' (Err e) = (cells < length ts) × (ts' ≡ ts) × (roots' ≡ roots)

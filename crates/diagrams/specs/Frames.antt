@@ -6,7 +6,10 @@ use Rattle.families.specs.Trees.{Tree}
 use Rattle.memos.specs.declared.diagram.Diagram.{Diagram}
 use Rattle.memos.specs.Diagrams.{seen}
 use Rattle.diagrams.specs.declared.frames.Frame.{Frame}
-use Rattle.diagrams.specs.declared.frames.Frame.TheVariants.{EitherLow, BothLow, BothHighHigh, BothHighLow, BothJoin, BothLowHigh, LessLow, LessHigh, TurnLow, TurnHigh, TurnBoth, OffLow, OnLow, Highs, High}
+use Rattle.diagrams.specs.declared.frames.Frame.TheVariants.{EitherLow, Both as InBoth, Less as InLess, Turn as InTurn, OffLow, OnLow, Highs, High}
+use Rattle.diagrams.specs.declared.frames.BothFrame.TheVariants.{Low as BothLow, HighHigh as BothHighHigh, HighLow as BothHighLow, Join as BothJoin, LowHigh as BothLowHigh}
+use Rattle.diagrams.specs.declared.frames.LessFrame.TheVariants.{Low as LessLow, High as LessHigh}
+use Rattle.diagrams.specs.declared.frames.TurnFrame.TheVariants.{Low as TurnLow, High as TurnHigh, Both as TurnBoth}
 use Rattle.diagrams.specs.declared.frames.Halves.{Halves}
 use Rattle.diagrams.specs.declared.frames.Next.{Next}
 use Rattle.diagrams.specs.declared.frames.Next.TheVariants.{Wait as Waiting, Done}
@@ -26,16 +29,16 @@ HalvesHeld ts p = Held ts p.f0 × Held ts p.f1 × Held ts p.g0 × Held ts p.g1
 -- every diagram of the frame is held
 abbrev pub FrameHeld : List Tree → Frame → Type 0
 FrameHeld ts (EitherLow v f1 g1) = Held ts f1 × Held ts g1
-FrameHeld ts (BothLow p) = HalvesHeld ts p
-FrameHeld ts (BothHighHigh p low) = HalvesHeld ts p × Held ts low
-FrameHeld ts (BothHighLow v low f0 g1 first) = Held ts low × Held ts f0 × Held ts g1 × Held ts first
-FrameHeld ts (BothJoin v low f0 g1) = Held ts low × Held ts f0 × Held ts g1
-FrameHeld ts (BothLowHigh v low joined) = Held ts low × Held ts joined
-FrameHeld ts (LessLow v f1 g0 g1) = Held ts f1 × Held ts g0 × Held ts g1
-FrameHeld ts (LessHigh v low g0) = Held ts low × Held ts g0
-FrameHeld ts (TurnLow v f1) = Held ts f1
-FrameHeld ts (TurnHigh v turned) = Held ts turned
-FrameHeld ts (TurnBoth v turned) = Held ts turned
+FrameHeld ts (InBoth (BothLow p)) = HalvesHeld ts p
+FrameHeld ts (InBoth (BothHighHigh p low)) = HalvesHeld ts p × Held ts low
+FrameHeld ts (InBoth (BothHighLow p low first)) = HalvesHeld ts p × Held ts low × Held ts first
+FrameHeld ts (InBoth (BothJoin p low)) = HalvesHeld ts p × Held ts low
+FrameHeld ts (InBoth (BothLowHigh v low first)) = Held ts low × Held ts first
+FrameHeld ts (InLess (LessLow v f1 g0 g1)) = Held ts f1 × Held ts g0 × Held ts g1
+FrameHeld ts (InLess (LessHigh v low g0)) = Held ts low × Held ts g0
+FrameHeld ts (InTurn (TurnLow v f1)) = Held ts f1
+FrameHeld ts (InTurn (TurnHigh v turned)) = Held ts turned
+FrameHeld ts (InTurn (TurnBoth v turned)) = Held ts turned
 FrameHeld ts (OffLow v f1 away) = Held ts f1
 FrameHeld ts (OnLow v f1 away) = Held ts f1
 FrameHeld ts (Highs v low) = Held ts low
@@ -47,7 +50,7 @@ continuation ts (EitherLow v f1 g1) l =
     ask (either (tree_at ts f1) (tree_at ts g1)) λ y.
     ask (less y l) λ h.
     builds v l h
-continuation ts (BothLow p) l =
+continuation ts (InBoth (BothLow p)) l =
     ask (both (tree_at ts p.f1) (tree_at ts p.g1)) λ x.
     ask (both (tree_at ts p.f1) (tree_at ts p.g0)) λ y.
     ask (either x y) λ r.
@@ -55,45 +58,45 @@ continuation ts (BothLow p) l =
     ask (either r s) λ z.
     ask (less z l) λ h.
     builds p.member l h
-continuation ts (BothHighHigh p low) x =
+continuation ts (InBoth (BothHighHigh p low)) x =
     ask (both (tree_at ts p.f1) (tree_at ts p.g0)) λ y.
     ask (either x y) λ r.
     ask (both (tree_at ts p.f0) (tree_at ts p.g1)) λ s.
     ask (either r s) λ z.
     ask (less z (tree_at ts low)) λ h.
     builds p.member (tree_at ts low) h
-continuation ts (BothHighLow v low f0 g1 first) q =
+continuation ts (InBoth (BothHighLow p low first)) q =
     ask (either (tree_at ts first) q) λ r.
-    ask (both (tree_at ts f0) (tree_at ts g1)) λ s.
+    ask (both (tree_at ts p.f0) (tree_at ts p.g1)) λ s.
     ask (either r s) λ x.
     ask (less x (tree_at ts low)) λ h.
-    builds v (tree_at ts low) h
-continuation ts (BothJoin v low f0 g1) r =
-    ask (both (tree_at ts f0) (tree_at ts g1)) λ s.
+    builds p.member (tree_at ts low) h
+continuation ts (InBoth (BothJoin p low)) r =
+    ask (both (tree_at ts p.f0) (tree_at ts p.g1)) λ s.
     ask (either r s) λ x.
     ask (less x (tree_at ts low)) λ h.
-    builds v (tree_at ts low) h
-continuation ts (BothLowHigh v low joined) s =
-    ask (either (tree_at ts joined) s) λ x.
+    builds p.member (tree_at ts low) h
+continuation ts (InBoth (BothLowHigh v low first)) s =
+    ask (either (tree_at ts first) s) λ x.
     ask (less x (tree_at ts low)) λ h.
     builds v (tree_at ts low) h
-continuation ts (LessLow v f1 g0 g1) l =
+continuation ts (InLess (LessLow v f1 g0 g1)) l =
     ask (less (tree_at ts f1) (tree_at ts g1)) λ x.
     ask (less x (tree_at ts g0)) λ h.
     builds v l h
-continuation ts (LessHigh v low g0) x =
+continuation ts (InLess (LessHigh v low g0)) x =
     ask (less x (tree_at ts g0)) λ h.
     builds v (tree_at ts low) h
-continuation ts (TurnLow v f1) a =
+continuation ts (InTurn (TurnLow v f1)) a =
     ask (turn (tree_at ts f1)) λ b.
     ask (both a b) λ l.
     ask (less a l) λ h.
     builds v l h
-continuation ts (TurnHigh v turned) b =
+continuation ts (InTurn (TurnHigh v turned)) b =
     ask (both (tree_at ts turned) b) λ l.
     ask (less (tree_at ts turned) l) λ h.
     builds v l h
-continuation ts (TurnBoth v turned) l =
+continuation ts (InTurn (TurnBoth v turned)) l =
     ask (less (tree_at ts turned) l) λ h.
     builds v l h
 continuation ts (OffLow v f1 away) l =
@@ -110,16 +113,16 @@ continuation ts (High v low) h = builds v (tree_at ts low) h
 -- how many further answers the frame waits for, after the one that is due
 abbrev pub ahead : Frame → ℕ
 ahead (EitherLow v f1 g1) = 2
-ahead (BothLow p) = 6
-ahead (BothHighHigh p low) = 5
-ahead (BothHighLow v low f0 g1 first) = 4
-ahead (BothJoin v low f0 g1) = 3
-ahead (BothLowHigh v low joined) = 2
-ahead (LessLow v f1 g0 g1) = 2
-ahead (LessHigh v low g0) = 1
-ahead (TurnLow v f1) = 3
-ahead (TurnHigh v turned) = 2
-ahead (TurnBoth v turned) = 1
+ahead (InBoth (BothLow p)) = 6
+ahead (InBoth (BothHighHigh p low)) = 5
+ahead (InBoth (BothHighLow p low first)) = 4
+ahead (InBoth (BothJoin p low)) = 3
+ahead (InBoth (BothLowHigh v low first)) = 2
+ahead (InLess (LessLow v f1 g0 g1)) = 2
+ahead (InLess (LessHigh v low g0)) = 1
+ahead (InTurn (TurnLow v f1)) = 3
+ahead (InTurn (TurnHigh v turned)) = 2
+ahead (InTurn (TurnBoth v turned)) = 1
 ahead (OffLow v f1 away) = 1
 ahead (OnLow v f1 away) = 1
 ahead (Highs v low) = 1

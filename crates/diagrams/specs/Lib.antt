@@ -1,6 +1,7 @@
 pub mod NodeKeys
 pub mod Memory
 pub mod Building
+pub mod Folding
 pub mod Counting
 pub mod Collecting
 pub mod Listing
@@ -8,5 +9,6 @@ pub mod Avoiding
 pub mod Asking
 pub mod Frames
 pub mod Stacks
+pub mod Walking
 pub mod Solving
 pub mod NodeLaws

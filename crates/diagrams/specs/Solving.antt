@@ -6,17 +6,17 @@ use Rattle.interning.specs.Places.{Kept}
 use Rattle.memos.specs.declared.diagram.Diagram.{Diagram}
 use Rattle.memos.specs.declared.question.Question.{Question}
 use Rattle.memos.specs.Notes.{Note}
-use Rattle.families.specs.Trees.{Tree, build, equal}
+use Rattle.families.specs.Trees.{Tree, equal}
 use Rattle.families.specs.Questions.{Ask, sight, opens, split_at}
 use Rattle.families.specs.Scripts.{Script, ask}
-use Rattle.families.specs.Outcomes.{made, run, outcome, answer}
+use Rattle.families.specs.Outcomes.{run, outcome, answer}
 use Rattle.families.specs.Meanings.{GoodAsk}
 use Rattle.families.specs.Leads.{Leads}
 use Rattle.diagrams.specs.declared.solve.Step.{Step}
 use Rattle.diagrams.specs.declared.solve.Step.TheVariants.{Ask as Asking, Answer as Answering}
-use Rattle.diagrams.specs.declared.solve.stack.Pending.{Pending}
+use Rattle.diagrams.specs.declared.solve.Pending.{Pending}
 use Rattle.diagrams.specs.Asking.{Asks}
-use Rattle.diagrams.specs.Building.{Denotes}
+use Rattle.diagrams.specs.Building.{Denotes, Lacks}
 use Rattle.diagrams.specs.Frames.{Awaits, ahead}
 
 -- the diagram is the answer to q, and everything that q builds is held
@@ -51,26 +51,6 @@ told keeps ts ns q = keeps → HasNote ts ns q
 pub record Grows (ts ts' : List Tree) (q : Ask) : Type 0 where
   pub kept : Kept ts ts'
   pub only : Within ts' (ts ++ (outcome q).built)
-
--- no place is free, one of the trees us is not held, and nothing changes
-pub record Lacks (cap : ℕ) (ts us ts' : List Tree) : Type 0 where
-  pub full : cap ≤ length ts
-  pub missing : Tree
-  pub among : missing ∈ us
-  pub absent : missing ∈ ts → ⊥
-  pub same : ts' ≡ ts
-
--- d is the tree over two parts; it is held where it is a node, and nothing else is added
-pub record Joined (ts : List Tree) (v : ℕ) (l h : Tree) (d : Diagram) (ts' : List Tree) : Type 0 where
-  pub denotes : Denotes ts' d (build v l h)
-  pub kept : Kept ts ts'
-  pub there : Within (made v l h) ts'
-  pub only : Within ts' (ts ++ made v l h)
-
--- From the trees ts, with cap places, the tree over l and h is made or lacks a place.
-abbrev pub Joins : ℕ → List Tree → ℕ → Tree → Tree → Result Diagram Full → List Tree → Type 0
-Joins cap ts v l h (Ok d) ts' = Joined ts v l h d ts'
-Joins cap ts v l h (Err e) ts' = Lacks cap ts (made v l h) ts'
 
 -- the script s is what is left to do for q: it builds the answer, all that q builds and is not held yet, and opens all that q
 -- opens and is not told yet
@@ -150,18 +130,22 @@ abbrev pub CountsOn : Type 0 → Type 0 → List Tree → List Note → List Tre
 CountsOn keeps keeps' ts ns ts' ns' q xs zs ys opened opened' =
     keeps' → (us : List Tree) (ms : List Note) (final : Ask) → Chain ts (told keeps ts ns) final xs q → Tally us ms ts ns final zs opened → Tally us ms ts' ns' final ys opened'
 
--- how many different questions were opened for q: those that had no note
-pub record Tallied (ts : List Tree) (ns : List Note) (q : Ask) (opened : ℕ) : Type 0 where
+-- From the trees ts and the notes ns to ts' and ns' so many different questions were opened of those asked: the ones that had no
+-- note. Now they have one, and nothing else was noted.
+pub record Tallied (ts : List Tree) (ns : List Note) (ts' : List Tree) (ns' : List Note) (asked : List Ask) (opened : ℕ) : Type 0 where
   pub list : List Ask
   pub count : opened ≡ min (length list) (2 ^ 64 - 1)
   pub once : NoRepeat list
-  pub only : (p : Ask) → p ∈ list → (p ∈ (outcome q).asked) × (HasNote ts ns p → ⊥)
-  pub all : (p : Ask) → p ∈ (outcome q).asked → HasNote ts ns p ⊎ (p ∈ list)
+  pub only : (p : Ask) → p ∈ list → (p ∈ asked) × (HasNote ts ns p → ⊥)
+  pub all : (p : Ask) → p ∈ asked → HasNote ts ns p ⊎ (p ∈ list)
+  pub still : (p : Ask) → HasNote ts ns p → HasNote ts' ns' p
+  pub new : (p : Ask) → p ∈ list → HasNote ts' ns' p
+  pub back : (p : Ask) → HasNote ts' ns' p → HasNote ts ns p ⊎ (p ∈ list)
 
 -- the count, where q was answered
-abbrev pub TalliedOut : List Tree → List Note → Ask → Result Diagram Full → ℕ → Type 0
-TalliedOut ts ns q (Ok d) opened = Tallied ts ns q opened
-TalliedOut ts ns q (Err e) opened = Unit {0}
+abbrev pub TalliedOut : List Tree → List Note → List Tree → List Note → Ask → Result Diagram Full → ℕ → Type 0
+TalliedOut ts ns ts' ns' q (Ok d) opened = Tallied ts ns ts' ns' (outcome q).asked opened
+TalliedOut ts ns ts' ns' q (Err e) opened = Unit {0}
 
 -- From the trees ts, the notes ns and the first step the work has come to the trees ts' and the notes ns', with the open
 -- questions xs, the count of those that were opened, and the next step.
@@ -197,7 +181,11 @@ abbrev pub Takes : ℕ → List Tree → (Ask → Type 0) → List Tree → (Ask
 Takes cap ts T ts' T' q xs ys n (Ok step) = Steps ts T ts' T' q xs ys n step
 Takes cap ts T ts' T' q xs ys n (Err e) = Lacks cap ts (outcome q).built ts'
 
--- q is answered with all that it builds, or what was held and what q builds are more different trees than there are places
+-- how many places it takes to hold the trees ts and all that q builds
+abbrev pub needed : List Tree → Ask → ℕ
+needed ts q = length (distinct equal (ts ++ (outcome q).built))
+
+-- q is answered with all that it builds, exactly where there are places enough for what was held and what q builds
 abbrev pub WorkedOut : ℕ → List Tree → List Tree → Ask → Result Diagram Full → Type 0
-WorkedOut cap ts ts' q (Ok d) = Settled ts' d q
-WorkedOut cap ts ts' q (Err e) = cap < length (distinct equal (ts ++ (outcome q).built))
+WorkedOut cap ts ts' q (Ok d) = Settled ts' d q × (needed ts q ≤ cap)
+WorkedOut cap ts ts' q (Err e) = cap < needed ts q

@@ -1,7 +1,6 @@
--- The open questions of a stack, the newest first.
+-- The entries of a stack, the newest first.
 use Rattle.std.specs.Prelude.{List, reverse, take}
-use Rattle.diagrams.specs.declared.solve.stack.Pending.{Pending}
-use Rattle.diagrams.specs.declared.solve.stack.Stack.{Stack}
+use Rattle.diagrams.specs.declared.stack.Stack.{Stack}
 
-abbrev pub pending : Stack → List Pending
-pending s = reverse (take s.depth s.frames)
+abbrev pub stacked : {T : Type 0} → Stack T → List T
+stacked s = reverse (take s.depth s.entries)

@@ -5,3 +5,4 @@ mod frames;
 pub mod node;
 pub mod nodes;
 pub mod solve;
+mod stack;

@@ -1,32 +1,35 @@
 //! The solver: works a question out over a memory of nodes and any memo.
 //! An open question waits for exactly one further answer; it is resumed with that answer, and then asks on or builds its own.
-ghost use Rattle.std.specs.Prelude.{◌≡◌, ℕ, ◌∷◌, length, OnOk};
-ghost use Rattle.families.specs.Trees.{Tree};
+ghost use Rattle.std.specs.Prelude.{◌≡◌, ℕ, [], ◌∷◌, length, OnOk};
 ghost use Rattle.families.specs.Questions.{Ask as Asked};
 ghost use Rattle.families.specs.Meanings.{GoodAsk};
 ghost use Rattle.diagrams.specs.declared.solve.Step.TheVariants.{Ask as Asking, Answer as Answering};
 ghost use Rattle.diagrams.specs.Asking.{Asks, ask_at};
-ghost use Rattle.diagrams.specs.Building.{Denotes, Fitting};
 ghost use Rattle.diagrams.specs.Memory.{places, trees};
-ghost use Rattle.diagrams.specs.Solving.{AllRight, Closed, CountsOn, Due, Grows, Joins, Puttable, Steps, Takes, TalliedOut, WorkedOut, load, told};
-ghost use Rattle.diagrams.specs.Stacks.{pending};
+ghost use Rattle.diagrams.specs.Solving.{AllRight, Closed, CountsOn, Due, Grows, Puttable, Steps, Takes, TalliedOut, WorkedOut, load, told};
+ghost use Rattle.diagrams.specs.Stacks.{stacked};
 
 use crate::frames;
-use crate::frames::Next;
+use crate::frames::{Frame, Next};
 use crate::nodes::NodeMemory;
+use crate::stack::Stack;
 use interning::interner::Full;
-use memos::diagram::{Diagram, View};
+use memos::diagram::Diagram;
 use memos::memo::Memo;
 use memos::question::Question;
-use stack::{Pending, Stack};
-
-mod stack;
 
 // What came of a question, and how many questions were opened for it.
 #[derive(Clone, Copy)]
 pub struct Solved {
     pub answer: Result<Diagram, Full>,
     pub opened: u64,
+}
+
+// An open question, and how far it has come.
+#[derive(Clone, Copy)]
+pub(crate) struct Pending {
+    pub(crate) question: Question,
+    pub(crate) frame: Frame,
 }
 
 // What is done next: a question is asked, or an answer is taken to the newest open question.
@@ -36,39 +39,34 @@ enum Step {
     Answer(Diagram),
 }
 
-// The diagram over two parts, which takes a place only where it is a new node.
-fn join(
-    nodes: &mut NodeMemory<'_>,
-    member: u8,
-    low: Diagram,
-    high: Diagram,
-) -> Result<Diagram, Full>
-    requires fitting { Fitting (trees nodes.old) member low high }
-    ensures joins { (l h : Tree) → Denotes (trees nodes.old) low l → Denotes (trees nodes.old) high h → Joins (places nodes.old) (trees nodes.old) member l h result (trees nodes.new) }
-    ensures places { places nodes.new ≡ places nodes.old }
-    ensures named { nodes.new.interner.slots.ghost_name ≡ nodes.old.interner.slots.ghost_name }
+// No open question; the places are idle.
+fn no_open(question: Question) -> Stack<Pending>
+    ensures { stacked result ≡ [] }
 {
-    if let View::None = high.view() {
-        return Ok(low);
-    }
-    nodes.build(member, low, high)
+    Stack::empty(Pending {
+        question,
+        frame: Frame::High {
+            member: 0,
+            low: Diagram::none(),
+        },
+    })
 }
 
 // Asks a question: it is answered at sight or by a note, or else it is opened.
 fn put<M: Memo>(
     nodes: &NodeMemory<'_>,
     memo: &mut M,
-    stack: &mut Stack,
+    stack: &mut Stack<Pending>,
     opened: &mut u64,
     question: Question,
 ) -> Step
     requires notes { AllRight (trees nodes.now) (M.Memo.notes memo.old) }
     requires closed { M.Memo.keeps memo.old → Closed (trees nodes.now) (M.Memo.notes memo.old) }
-    requires puttable { Puttable (trees nodes.now) (length (pending stack.old)) question }
+    requires puttable { Puttable (trees nodes.now) (length (stacked stack.old)) question }
     ensures notes { M.Memo.notes memo.new ≡ M.Memo.notes memo.old }
-    ensures counts { CountsOn (M.Memo.keeps memo.old) (M.Memo.keeps memo.new) (trees nodes.now) (M.Memo.notes memo.old) (trees nodes.now) (M.Memo.notes memo.new) (ask_at (trees nodes.now) question) (pending stack.old) (pending stack.old) (pending stack.new) opened.old opened.new }
+    ensures counts { CountsOn (M.Memo.keeps memo.old) (M.Memo.keeps memo.new) (trees nodes.now) (M.Memo.notes memo.old) (trees nodes.now) (M.Memo.notes memo.new) (ask_at (trees nodes.now) question) (stacked stack.old) (stacked stack.old) (stacked stack.new) opened.old opened.new }
     ensures already { M.Memo.keeps memo.new → M.Memo.keeps memo.old }
-    ensures steps { Steps (trees nodes.now) (told (M.Memo.keeps memo.old) (trees nodes.now) (M.Memo.notes memo.old)) (trees nodes.now) (told (M.Memo.keeps memo.new) (trees nodes.now) (M.Memo.notes memo.new)) (ask_at (trees nodes.now) question) (pending stack.old) (pending stack.new) (load (pending stack.old) (Asking question)) result }
+    ensures steps { Steps (trees nodes.now) (told (M.Memo.keeps memo.old) (trees nodes.now) (M.Memo.notes memo.old)) (trees nodes.now) (told (M.Memo.keeps memo.new) (trees nodes.now) (M.Memo.notes memo.new)) (ask_at (trees nodes.now) question) (stacked stack.old) (stacked stack.new) (load (stacked stack.old) (Asking question)) result }
 {
     if let Some(answer) = frames::sight(nodes, question) {
         return Step::Answer(answer);
@@ -89,19 +87,19 @@ fn put<M: Memo>(
 fn take<M: Memo>(
     nodes: &mut NodeMemory<'_>,
     memo: &mut M,
-    stack: &mut Stack,
+    stack: &mut Stack<Pending>,
     newest: Pending,
     answer: Diagram,
 ) -> Result<Step, Full>
     requires notes { AllRight (trees nodes.old) (M.Memo.notes memo.old) }
     requires closed { M.Memo.keeps memo.old → Closed (trees nodes.old) (M.Memo.notes memo.old) }
-    requires due { Due (trees nodes.old) (told (M.Memo.keeps memo.old) (trees nodes.old) (M.Memo.notes memo.old)) (length (pending stack.old)) newest answer }
+    requires due { Due (trees nodes.old) (told (M.Memo.keeps memo.old) (trees nodes.old) (M.Memo.notes memo.old)) (length (stacked stack.old)) newest answer }
     ensures notes { AllRight (trees nodes.new) (M.Memo.notes memo.new) }
     ensures grows { Grows (trees nodes.old) (trees nodes.new) (ask_at (trees nodes.old) newest.question) }
-    ensures counts { OnOk result ((n : ℕ) → CountsOn (M.Memo.keeps memo.old) (M.Memo.keeps memo.new) (trees nodes.old) (M.Memo.notes memo.old) (trees nodes.new) (M.Memo.notes memo.new) (ask_at (trees nodes.old) newest.question) (pending stack.old) (newest ∷ pending stack.old) (pending stack.new) n n) }
+    ensures counts { OnOk result ((n : ℕ) → CountsOn (M.Memo.keeps memo.old) (M.Memo.keeps memo.new) (trees nodes.old) (M.Memo.notes memo.old) (trees nodes.new) (M.Memo.notes memo.new) (ask_at (trees nodes.old) newest.question) (stacked stack.old) (newest ∷ stacked stack.old) (stacked stack.new) n n) }
     ensures already { M.Memo.keeps memo.new → M.Memo.keeps memo.old }
     ensures closed { M.Memo.keeps memo.new → Closed (trees nodes.new) (M.Memo.notes memo.new) }
-    ensures takes { Takes (places nodes.old) (trees nodes.old) (told (M.Memo.keeps memo.old) (trees nodes.old) (M.Memo.notes memo.old)) (trees nodes.new) (told (M.Memo.keeps memo.new) (trees nodes.new) (M.Memo.notes memo.new)) (ask_at (trees nodes.old) newest.question) (pending stack.old) (pending stack.new) (load (newest ∷ pending stack.old) (Answering answer)) result }
+    ensures takes { Takes (places nodes.old) (trees nodes.old) (told (M.Memo.keeps memo.old) (trees nodes.old) (M.Memo.notes memo.old)) (trees nodes.new) (told (M.Memo.keeps memo.new) (trees nodes.new) (M.Memo.notes memo.new)) (ask_at (trees nodes.old) newest.question) (stacked stack.old) (stacked stack.new) (load (newest ∷ stacked stack.old) (Answering answer)) result }
     ensures places { places nodes.new ≡ places nodes.old }
     ensures named { nodes.new.interner.slots.ghost_name ≡ nodes.old.interner.slots.ghost_name }
 {
@@ -115,7 +113,7 @@ fn take<M: Memo>(
             Ok(Step::Ask(wait.question))
         }
         Next::Done(member, low, high) => {
-            let built = join(nodes, member, low, high)?;
+            let built = nodes.build(member, low, high)?;
             memo.note(question, built);
             Ok(Step::Answer(built))
         }
@@ -128,14 +126,15 @@ pub fn solve<M: Memo>(nodes: &mut NodeMemory<'_>, memo: &mut M, question: Questi
     requires closed { M.Memo.keeps memo.old → Closed (trees nodes.old) (M.Memo.notes memo.old) }
     requires asks { (q : Asked) × Asks (trees nodes.old) question q × GoodAsk 1 q }
     ensures answer { (q : Asked) → Asks (trees nodes.old) question q → WorkedOut (places nodes.old) (trees nodes.old) (trees nodes.new) q result.answer }
-    ensures opened { M.Memo.keeps memo.new → (q : Asked) → Asks (trees nodes.old) question q → TalliedOut (trees nodes.old) (M.Memo.notes memo.old) q result.answer result.opened }
+    ensures opened { M.Memo.keeps memo.new → (q : Asked) → Asks (trees nodes.old) question q → TalliedOut (trees nodes.old) (M.Memo.notes memo.old) (trees nodes.new) (M.Memo.notes memo.new) q result.answer result.opened }
+    ensures already { M.Memo.keeps memo.new → M.Memo.keeps memo.old }
     ensures closed { M.Memo.keeps memo.new → Closed (trees nodes.new) (M.Memo.notes memo.new) }
     ensures grows { (q : Asked) → Asks (trees nodes.old) question q → Grows (trees nodes.old) (trees nodes.new) q }
     ensures notes { AllRight (trees nodes.new) (M.Memo.notes memo.new) }
     ensures places { places nodes.new ≡ places nodes.old }
     ensures named { nodes.new.interner.slots.ghost_name ≡ nodes.old.interner.slots.ghost_name }
 {
-    let mut stack = Stack::empty();
+    let mut stack = no_open(question);
     let mut opened = 0;
     let mut step = Step::Ask(question);
     loop {

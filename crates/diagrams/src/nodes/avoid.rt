@@ -5,12 +5,13 @@ ghost use Rattle.memos.specs.Diagrams.{seen};
 ghost use Rattle.families.specs.Groups.{Group, holds, is_member, weight};
 ghost use Rattle.families.specs.Sets.{Meet};
 ghost use Rattle.families.specs.Trees.{Tree, groups};
-ghost use Rattle.diagrams.specs.Avoiding.{Avoided, Told, apart, finds_at, first_avoiding};
+ghost use Rattle.diagrams.specs.Avoiding.{Avoided, apart, first_avoiding, has_avoiding};
 ghost use Rattle.diagrams.specs.Building.{Denotes};
+ghost use Rattle.diagrams.specs.Folding.{Folded};
 ghost use Rattle.diagrams.specs.Memory.{trees};
 
+use super::fold::{Fold, value_of};
 use super::{NodeMemory, TooFewCells};
-use crate::node::Node;
 use families::masks::{bit, meets};
 use memos::diagram::{Diagram, View};
 
@@ -26,31 +27,31 @@ fn avoids(group: u64, other: u64) -> bool
 fn leaves_out(group: u64, member: u8) -> bool
     ensures { result ≡ (is_member member && apart group (weight member)) }
 {
-    match bit(u32::from(member)) {
-        Some(weight) => avoids(group, weight),
-        None => false,
-    }
+    bit(u32::from(member)).is_some_and(|weight| avoids(group, weight))
 }
 
-// Whether a diagram has a group to find, from what the cells tell of the places.
-fn finds(cells: &[bool], diagram: Diagram) -> bool
-    ensures { result ≡ finds_at cells.now (seen diagram) }
-{
-    match diagram.view() {
-        View::None => false,
-        View::Always => true,
-        View::Node(place) => {
-            let place = place as usize;
-            place < cells.len() && cells[place]
-        }
-    }
+// Whether a tree has a group that shares no member with a given one.
+#[derive(Clone, Copy)]
+struct Avoiding {
+    group: u64,
 }
 
-// The same of a node: without its member, or with it where the group leaves it out.
-fn node_finds(cells: &[bool], group: u64, node: Node) -> bool
-    ensures { result ≡ (finds_at cells.now (seen node.low) || ((is_member node.member && apart group (weight node.member)) && finds_at cells.now (seen node.high))) }
-{
-    finds(cells, node.low) || (leaves_out(group, node.member) && finds(cells, node.high))
+impl Fold for Avoiding {
+    type Value = bool;
+
+    ghost value = { λ it t. has_avoiding it.group t };
+
+    fn none(&self) -> bool {
+        false
+    }
+
+    fn always(&self) -> bool {
+        true
+    }
+
+    fn node(&self, member: u8, low: bool, high: bool) -> bool {
+        low || (leaves_out(self.group, member) && high)
+    }
 }
 
 impl<'a> NodeMemory<'a> {
@@ -64,43 +65,27 @@ impl<'a> NodeMemory<'a> {
     ) -> Result<Option<u64>, TooFewCells>
         ensures { Avoided (length cells.old) (trees self.now) diagram group result }
     {
-        if cells.len() < self.len() as usize {
-            return Err(TooFewCells);
-        }
-        self.tell(group, cells);
-        Ok(self.descend(diagram, group, cells))
-    }
-
-    // Writes into the cell of each place whether one of its groups shares no member with a group.
-    fn tell(&self, group: u64, cells: &mut [bool])
-        requires { length (trees self.now) ≤ length cells.old }
-        ensures { Told group (trees self.now) (length (trees self.now)) cells.new }
-    {
-        for place in 0..self.len() {
-            let node = self.key(place);
-            cells[place as usize] = node_finds(cells, group, node);
-        }
+        let avoiding = Avoiding { group };
+        self.fold(&avoiding, cells)?;
+        Ok(self.descend(diagram, &avoiding, cells))
     }
 
     // The first group, with the cells told: on the high side where there is one to find, else on the low side.
-    fn descend(&self, diagram: Diagram, group: u64, cells: &[bool]) -> Option<u64>
-        requires { Told group (trees self.now) (length (trees self.now)) cells.now }
-        ensures { (t : Tree) → Denotes (trees self.now) diagram t → result ≡ first_avoiding group (groups t) }
+    fn descend(&self, diagram: Diagram, avoiding: &Avoiding, cells: &[bool]) -> Option<u64>
+        requires { Folded (has_avoiding avoiding.now.group) (trees self.now) (length (trees self.now)) cells.now }
+        ensures { (t : Tree) → Denotes (trees self.now) diagram t → result ≡ first_avoiding avoiding.now.group (groups t) }
     {
         match diagram.view() {
             View::None => None,
             View::Always => Some(0),
-            View::Node(place) => {
-                if place >= self.len() {
-                    return None;
-                }
-                let node = self.key(place);
+            View::Node(_) => {
+                let node = self.node(diagram)?;
                 let weight = bit(u32::from(node.member))?;
-                if avoids(group, weight) && finds(cells, node.high) {
-                    let rest = self.descend(node.high, group, cells)?;
+                if avoids(avoiding.group, weight) && value_of(avoiding, cells, node.high) {
+                    let rest = self.descend(node.high, avoiding, cells)?;
                     return Some(weight + rest);
                 }
-                self.descend(node.low, group, cells)
+                self.descend(node.low, avoiding, cells)
             }
         }
     }

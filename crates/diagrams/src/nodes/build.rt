@@ -1,8 +1,8 @@
 //! Building a diagram over two others, as the family's tree is built over two trees.
 //! To intern a node is to intern its tree, since nodes are told by their trees.
 ghost use Rattle.std.specs.Prelude.{◌≡◌};
-ghost use Rattle.families.specs.Trees.{Tree, build};
-ghost use Rattle.diagrams.specs.Building.{Built, Denotes, Fitting};
+ghost use Rattle.families.specs.Trees.{Tree};
+ghost use Rattle.diagrams.specs.Building.{Denotes, Fitting, Joins};
 ghost use Rattle.diagrams.specs.Memory.{places, trees};
 
 use super::NodeMemory;
@@ -14,7 +14,7 @@ impl<'a> NodeMemory<'a> {
     // The diagram over two parts: low where high is none, else the node, which takes the next place where it has none.
     pub(crate) fn build(&mut self, member: u8, low: Diagram, high: Diagram) -> Result<Diagram, Full>
         requires fitting { Fitting (trees self.old) member low high }
-        ensures built { (l h : Tree) → Denotes (trees self.old) low l → Denotes (trees self.old) high h → Built (places self.old) (trees self.old) (build member l h) result (trees self.new) }
+        ensures joins { (l h : Tree) → Denotes (trees self.old) low l → Denotes (trees self.old) high h → Joins (places self.old) (trees self.old) member l h result (trees self.new) }
         ensures places { places self.new ≡ places self.old }
         ensures named { self.new.interner.slots.ghost_name ≡ self.old.interner.slots.ghost_name }
     {

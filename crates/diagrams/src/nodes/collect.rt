@@ -1,99 +1,67 @@
 //! Throwing out what no root reaches: the marked nodes are built anew in the emptied memory, from the oldest to the newest.
 //! The parts of a marked node are marked and stand before it, so they have moved when it does; trees stay what they are.
-ghost use Rattle.std.specs.Prelude.{◌≡◌, ℕ, ◌<◌, ◌≤◌, min, length, take, slice_index_or};
+ghost use Rattle.std.specs.Prelude.{◌≡◌, ◌≤◌, length, map};
 ghost use Rattle.interning.specs.Model.{held};
-ghost use Rattle.memos.specs.declared.diagram.Diagram.{Diagram};
 ghost use Rattle.memos.specs.Diagrams.{seen};
-ghost use Rattle.diagrams.specs.Collecting.{ClosedFrom, Moved, ThrownOut, moved_as};
-ghost use Rattle.diagrams.specs.Memory.{places, trees};
+ghost use Rattle.diagrams.specs.Collecting.{ClosedFrom, Copied, Moved, ThrownOut, copies, marks, moved_as, moves};
+ghost use Rattle.diagrams.specs.Memory.{SameMemory, trees};
 
-use super::NodeMemory;
-use crate::node::Node;
+use super::{Cell, NodeMemory, TooFewCells};
 use memos::diagram::{Diagram, View};
 
 // A diagram under the name that it has moved to.
-fn moved(moves: &[Diagram], diagram: Diagram) -> Diagram
-    ensures { result ≡ moved_as moves.now diagram (seen diagram) }
+fn moved(cells: &[Cell], diagram: Diagram) -> Diagram
+    ensures { result ≡ moved_as (moves cells.now) diagram (seen diagram) }
 {
     match diagram.view() {
-        View::Node(place) => {
-            let place = place as usize;
-            if place < moves.len() {
-                moves[place]
-            } else {
-                diagram
-            }
-        }
+        View::Node(place) => cells.get(place as usize).map_or(diagram, |cell| cell.moved),
         _ => diagram,
     }
 }
 
 // Puts each root under the name that it has moved to.
-fn move_roots(roots: &mut [Diagram], moves: &[Diagram])
-    ensures { (i : ℕ) (d : Diagram) → i < length roots.old → slice_index_or roots.new i d ≡ moved_as moves.now (slice_index_or roots.old i d) (seen (slice_index_or roots.old i d)) }
+fn move_roots(roots: &mut [Diagram], cells: &[Cell])
+    ensures { roots.new ≡ map (λ d. moved_as (moves cells.now) d (seen d)) roots.old }
 {
-    for i in 0..roots.len() {
-        roots[i] = moved(moves, roots[i]);
+    for root in roots.iter_mut() {
+        *root = moved(cells, *root);
     }
 }
 
 impl<'a> NodeMemory<'a> {
-    // Throws out every node that no root reaches, and moves the roots. Needs a cell of each kind for each node held.
-    pub fn collect(
-        &mut self,
-        roots: &mut [Diagram],
-        marks: &mut [bool],
-        nodes: &mut [Node],
-        moves: &mut [Diagram],
-    ) -> bool
-        ensures collected { ThrownOut (min (length marks.old) (min (length nodes.old) (length moves.old))) (trees self.old) roots.old (trees self.new) roots.new result }
-        ensures places { places self.new ≡ places self.old }
-        ensures named { self.new.interner.slots.ghost_name ≡ self.old.interner.slots.ghost_name }
+    // Throws out every node that no root reaches, and moves the roots. Refused where fewer cells than nodes are lent.
+    pub fn collect(&mut self, roots: &mut [Diagram], cells: &mut [Cell]) -> Result<(), TooFewCells>
+        ensures collected { ThrownOut (length cells.old) (trees self.old) roots.old (trees self.new) roots.new result }
+        ensures same { SameMemory self.old self.new }
     {
-        let cells = marks.len().min(nodes.len().min(moves.len()));
-        if cells < self.len() as usize {
-            return false;
+        if cells.len() < self.len() as usize {
+            return Err(TooFewCells);
         }
-        self.mark(roots, marks);
-        self.refill(marks, nodes, moves);
-        move_roots(roots, moves);
-        true
+        self.mark(roots, cells);
+        self.refill(cells);
+        move_roots(roots, cells);
+        Ok(())
     }
 
-    // Copies the nodes out.
-    fn copy(&self, nodes: &mut [Node])
-        requires { length (trees self.now) ≤ length nodes.old }
-        ensures { take (length (trees self.now)) nodes.new ≡ held self.now.interner }
-    {
-        for place in 0..self.len() {
-            nodes[place as usize] = self.key(place);
-        }
-    }
-
-    // Holds the marked nodes alone; `moves` tells under which names.
-    fn refill(&mut self, marks: &[bool], nodes: &mut [Node], moves: &mut [Diagram])
-        requires marks { length (trees self.old) ≤ length marks.now }
-        requires nodes { length (trees self.old) ≤ length nodes.old }
-        requires moves { length (trees self.old) ≤ length moves.old }
-        requires closed { ClosedFrom (held self.old.interner) 0 marks.now }
-        ensures moved { Moved (trees self.old) marks.now (length (trees self.old)) (trees self.new) moves.new }
-        ensures places { places self.new ≡ places self.old }
-        ensures named { self.new.interner.slots.ghost_name ≡ self.old.interner.slots.ghost_name }
+    // Holds the marked nodes alone; their cells tell under which names.
+    fn refill(&mut self, cells: &mut [Cell])
+        requires cells { length (trees self.old) ≤ length cells.old }
+        requires closed { ClosedFrom (held self.old.interner) 0 (marks cells.old) }
+        requires copied { Copied (held self.old.interner) (copies cells.old) }
+        ensures moved { Moved (trees self.old) (marks cells.old) (length (trees self.old)) (trees self.new) (moves cells.new) }
+        ensures same { SameMemory self.old self.new }
     {
         let len = self.len();
-        self.copy(nodes);
         self.clear();
+        // An index, since a turn reads the cells of other places than the one that it has come to.
         for place in 0..len {
-            if !marks[place as usize] {
+            let Some(node) = cells[place as usize].node else {
                 continue;
-            }
-            let node = nodes[place as usize];
-            let low = moved(moves, node.low);
-            let high = moved(moves, node.high);
-            match self.build(node.member, low, high) {
-                Ok(diagram) => moves[place as usize] = diagram,
-                Err(_) => return,
-            }
+            };
+            let low = moved(cells, node.low);
+            let high = moved(cells, node.high);
+            let diagram = self.build(node.member, low, high).unwrap();
+            cells[place as usize].moved = diagram;
         }
     }
 }

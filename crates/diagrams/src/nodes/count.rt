@@ -1,48 +1,42 @@
-//! How many groups a diagram has: one pass upward over the places, each number the sum of those of the two parts.
+//! How many groups a diagram has: the number of a node is the sum of those of its two parts.
 //! A family has at most 2^48 groups, so that no sum wraps.
-ghost use Rattle.std.specs.Prelude.{◌≡◌, ◌≤◌, length};
-ghost use Rattle.memos.specs.Diagrams.{seen};
-ghost use Rattle.diagrams.specs.Counting.{Counted, Numbered, number_at};
+ghost use Rattle.std.specs.Prelude.{length};
+ghost use Rattle.families.specs.Trees.{groups};
+ghost use Rattle.diagrams.specs.Counting.{Counted};
 ghost use Rattle.diagrams.specs.Memory.{trees};
 
-use super::NodeMemory;
-use memos::diagram::{Diagram, View};
+use super::fold::{Fold, value_of};
+use super::{NodeMemory, TooFewCells};
+use memos::diagram::Diagram;
 
-// The number of groups of a diagram, from the numbers of the places.
-fn number_of(cells: &[u64], diagram: Diagram) -> u64
-    ensures { result ≡ number_at cells.now (seen diagram) }
-{
-    match diagram.view() {
-        View::None => 0,
-        View::Always => 1,
-        View::Node(place) => {
-            let place = place as usize;
-            if place < cells.len() { cells[place] } else { 0 }
-        }
+// The number of groups of a tree.
+#[derive(Clone, Copy)]
+struct Count;
+
+impl Fold for Count {
+    type Value = u64;
+
+    ghost value = { λ it t. length (groups t) };
+
+    fn none(&self) -> u64 {
+        0
+    }
+
+    fn always(&self) -> u64 {
+        1
+    }
+
+    fn node(&self, _member: u8, low: u64, high: u64) -> u64 {
+        low + high
     }
 }
 
 impl<'a> NodeMemory<'a> {
-    // The number of a diagram's groups, or none where fewer cells than nodes are lent.
-    pub fn count(&self, diagram: Diagram, cells: &mut [u64]) -> Option<u64>
+    // The number of a diagram's groups, refused where fewer cells than nodes are lent.
+    pub fn count(&self, diagram: Diagram, cells: &mut [u64]) -> Result<u64, TooFewCells>
         ensures { Counted (length cells.old) (trees self.now) diagram result }
     {
-        if cells.len() < self.len() as usize {
-            return None;
-        }
-        self.number(cells);
-        Some(number_of(cells, diagram))
-    }
-
-    // Writes the number of groups of each place into its cell.
-    fn number(&self, cells: &mut [u64])
-        requires { length (trees self.now) ≤ length cells.old }
-        ensures { Numbered (trees self.now) (length (trees self.now)) cells.new }
-    {
-        for place in 0..self.len() {
-            let node = self.key(place);
-            let sum = number_of(cells, node.low) + number_of(cells, node.high);
-            cells[place as usize] = sum;
-        }
+        self.fold(&Count, cells)?;
+        Ok(value_of(&Count, cells, diagram))
     }
 }

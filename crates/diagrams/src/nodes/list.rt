@@ -1,5 +1,5 @@
 //! The groups of a diagram in falling order, from the largest below a limit on.
-//! Where no group with the top member is below the limit, each one without it is: so the search fails on one way down at most.
+//! Where no group with the top member is below the limit, each one without it is: so one way down at most leads to nothing.
 ghost use Rattle.std.specs.Prelude.{◌≡◌, ◌+◌, ◌/◌, ◌≤◌, ◌++◌, length, take, drop};
 ghost use Rattle.families.specs.Trees.{Tree, groups};
 ghost use Rattle.diagrams.specs.Building.{Denotes};
@@ -7,6 +7,8 @@ ghost use Rattle.diagrams.specs.Listing.{Listed, first_below, group_bytes, page}
 ghost use Rattle.diagrams.specs.Memory.{trees};
 
 use super::NodeMemory;
+use super::branch::{Branch, Found};
+use crate::stack::Stack;
 use families::masks::bit;
 use memos::diagram::{Diagram, View};
 
@@ -44,20 +46,35 @@ impl<'a> NodeMemory<'a> {
     }
 
     // Writes the groups of a diagram below a limit, falling, as many whole ones as the buffer holds, and tells how many.
+    // One walk: a branch whose number is not below the limit is left at once, and the walk where the page is full.
     pub fn list(&self, diagram: Diagram, limit: u64, buffer: &mut [u8]) -> usize
         ensures { (t : Tree) → Denotes (trees self.now) diagram t → Listed (page limit (length buffer.old / 8) (groups t)) buffer.old buffer.new result }
     {
         let room = buffer.len() / 8;
-        let mut bound = limit;
-        for i in 0..room {
-            match self.first_below(diagram, bound) {
-                Some(group) => {
-                    put(buffer, i * 8, group);
-                    bound = group;
+        let mut count = 0;
+        let root = Branch {
+            diagram,
+            gathered: 0,
+        };
+        let mut later = Stack::empty(root);
+        later.push(root);
+        'page: while let Some(first) = later.pop() {
+            let mut branch = first;
+            'descent: while branch.gathered < limit {
+                match self.fork(branch, &mut later) {
+                    Found::High(high) => branch = high,
+                    Found::Nothing => break 'descent,
+                    Found::Group => {
+                        if count == room {
+                            break 'page;
+                        }
+                        put(buffer, count * 8, branch.gathered);
+                        count += 1;
+                        break 'descent;
+                    }
                 }
-                None => return i,
             }
         }
-        room
+        count
     }
 }

@@ -1,73 +1,69 @@
 //! Marking: from the newest place down, each marked node marks its two parts, which stand before it.
 //! So one pass suffices: what is marked is reached by a root, and the parts of what is marked are marked.
-ghost use Rattle.std.specs.Prelude.{◌≡◌, ℕ, ◌≤◌, false, List, length, slice_index_or};
+ghost use Rattle.std.specs.Prelude.{◌≡◌, ℕ, ◌≤◌, List, length, slice_index_or, None};
 ghost use Rattle.interning.specs.Model.{held};
 ghost use Rattle.memos.specs.declared.diagram.Diagram.{Diagram};
 ghost use Rattle.memos.specs.Diagrams.{seen};
-ghost use Rattle.diagrams.specs.Collecting.{ClosedFrom, Covers, Marked, Sparing, marked_by};
+ghost use Rattle.diagrams.specs.Collecting.{ClosedFrom, Copied, Covers, Marked, Sparing, copies, marked_by, marks};
 ghost use Rattle.diagrams.specs.Memory.{trees};
 
-use super::NodeMemory;
+use super::{Cell, NodeMemory};
 use memos::diagram::{Diagram, View};
 
-// Marks the place of a diagram, if it has one.
-fn mark(marks: &mut [bool], diagram: Diagram)
-    ensures { marks.new ≡ marked_by marks.old (seen diagram) }
-{
-    if let View::Node(place) = diagram.view() {
-        let place = place as usize;
-        if place < marks.len() {
-            marks[place] = true;
-        }
-    }
-}
-
-// Takes every mark away.
-fn unmark(marks: &mut [bool])
-    ensures { (p : ℕ) → slice_index_or marks.new p false ≡ false }
-{
-    for mark in marks.iter_mut() {
-        *mark = false;
-    }
-}
-
 impl<'a> NodeMemory<'a> {
-    // Marks the places that the roots reach.
-    pub(super) fn mark(&self, roots: &[Diagram], marks: &mut [bool])
-        requires { length (trees self.now) ≤ length marks.old }
-        ensures sparing { Sparing (trees self.now) roots.now marks.new }
-        ensures covers { Covers (trees self.now) roots.now (length roots.now) marks.new }
-        ensures closed { ClosedFrom (held self.now.interner) 0 marks.new }
+    // Marks the places that the roots reach by their nodes.
+    pub(super) fn mark(&self, roots: &[Diagram], cells: &mut [Cell])
+        requires { length (trees self.now) ≤ length cells.old }
+        ensures sparing { Sparing (trees self.now) roots.now (marks cells.new) }
+        ensures covers { Covers (trees self.now) roots.now (length roots.now) (marks cells.new) }
+        ensures closed { ClosedFrom (held self.now.interner) 0 (marks cells.new) }
+        ensures copied { Copied (held self.now.interner) (copies cells.new) }
     {
-        unmark(marks);
-        self.mark_roots(roots, marks);
-        self.spread(marks);
+        cells.fill(Cell::blank());
+        self.mark_roots(roots, cells);
+        self.spread(cells);
+    }
+
+    // Marks the place of a diagram, if it is held.
+    fn mark_place(&self, diagram: Diagram, cells: &mut [Cell])
+        requires { length (trees self.now) ≤ length cells.old }
+        ensures marked { marks cells.new ≡ marked_by (length (trees self.now)) (marks cells.old) (seen diagram) }
+        ensures copied { Copied (held self.now.interner) (copies cells.old) → Copied (held self.now.interner) (copies cells.new) }
+    {
+        if let View::Node(place) = diagram.view()
+            && place < self.len()
+        {
+            cells[place as usize].node = Some(self.key(place));
+        }
     }
 
     // Marks the places of the roots.
-    fn mark_roots(&self, roots: &[Diagram], marks: &mut [bool])
-        requires room { length (trees self.now) ≤ length marks.old }
-        requires blank { (p : ℕ) → slice_index_or marks.old p false ≡ false }
-        ensures sparing { Sparing (trees self.now) roots.now marks.new }
-        ensures covers { Covers (trees self.now) roots.now (length roots.now) marks.new }
+    fn mark_roots(&self, roots: &[Diagram], cells: &mut [Cell])
+        requires room { length (trees self.now) ≤ length cells.old }
+        requires blank { (p : ℕ) → slice_index_or (copies cells.old) p None ≡ None }
+        ensures sparing { Sparing (trees self.now) roots.now (marks cells.new) }
+        ensures covers { Covers (trees self.now) roots.now (length roots.now) (marks cells.new) }
+        ensures copied { Copied (held self.now.interner) (copies cells.new) }
     {
-        for i in 0..roots.len() {
-            mark(marks, roots[i]);
+        for root in roots {
+            self.mark_place(*root, cells);
         }
     }
 
     // Marks the parts of what is marked.
-    fn spread(&self, marks: &mut [bool])
-        requires { length (trees self.now) ≤ length marks.old }
-        ensures sparing { (rs : List Diagram) → Sparing (trees self.now) rs marks.old → Sparing (trees self.now) rs marks.new }
-        ensures more { (p : ℕ) → Marked marks.old p → Marked marks.new p }
-        ensures closed { ClosedFrom (held self.now.interner) 0 marks.new }
+    fn spread(&self, cells: &mut [Cell])
+        requires room { length (trees self.now) ≤ length cells.old }
+        requires copied { Copied (held self.now.interner) (copies cells.old) }
+        ensures sparing { (rs : List Diagram) → Sparing (trees self.now) rs (marks cells.old) → Sparing (trees self.now) rs (marks cells.new) }
+        ensures more { (p : ℕ) → Marked (marks cells.old) p → Marked (marks cells.new) p }
+        ensures closed { ClosedFrom (held self.now.interner) 0 (marks cells.new) }
+        ensures copied { Copied (held self.now.interner) (copies cells.new) }
     {
+        // An index, since a turn writes the cells of other places than the one that it has come to.
         for place in (0..self.len()).rev() {
-            if marks[place as usize] {
-                let node = self.key(place);
-                mark(marks, node.low);
-                mark(marks, node.high);
+            if let Some(node) = cells[place as usize].node {
+                self.mark_place(node.low, cells);
+                self.mark_place(node.high, cells);
             }
         }
     }

@@ -1,7 +1,7 @@
 //! A node memory from its slots, emptied, and how full it is.
 //! A place has a name if its number and two more fit 32 bits, so that the last slots may stay unused.
 ghost use Rattle.std.specs.Prelude.{◌≡◌, ◌-◌, ◌^◌, min, [], length};
-ghost use Rattle.diagrams.specs.Memory.{places, trees};
+ghost use Rattle.diagrams.specs.Memory.{SameMemory, places, trees};
 
 use super::NodeMemory;
 use crate::node::Node;
@@ -26,8 +26,7 @@ impl<'a> NodeMemory<'a> {
     // Forgets every node.
     pub fn clear(&mut self)
         ensures trees { trees self.new ≡ [] }
-        ensures places { places self.new ≡ places self.old }
-        ensures named { self.new.interner.slots.ghost_name ≡ self.old.interner.slots.ghost_name }
+        ensures same { SameMemory self.old self.new }
     {
         self.interner.clear();
     }

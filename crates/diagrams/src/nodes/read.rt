@@ -3,9 +3,10 @@
 ghost use Rattle.std.specs.Prelude.{◌≡◌, ◌<◌, length, Decides};
 ghost use Rattle.interning.specs.Model.{held};
 ghost use Rattle.interning.specs.Places.{Stands};
+ghost use Rattle.memos.specs.Diagrams.{seen};
 ghost use Rattle.families.specs.Trees.{Tree};
 ghost use Rattle.families.specs.Questions.{top, low_at, high_at};
-ghost use Rattle.diagrams.specs.Building.{Denotes, Opened};
+ghost use Rattle.diagrams.specs.Building.{Denotes, NamedNode, Opened};
 ghost use Rattle.diagrams.specs.Memory.{trees};
 
 use super::NodeMemory;
@@ -22,7 +23,8 @@ pub struct Parts {
 impl<'a> NodeMemory<'a> {
     // The node that a diagram names, or none where it is none or always.
     pub fn node(&self, diagram: Diagram) -> Option<Node>
-        ensures { (t : Tree) → Denotes (trees self.now) diagram t → Opened (trees self.now) t result }
+        ensures named { NamedNode (held self.now.interner) (seen diagram) result }
+        ensures opened { (t : Tree) → Denotes (trees self.now) diagram t → Opened (trees self.now) t result }
     {
         match diagram.view() {
             View::Node(place) => self.interner.key_at(place),
@@ -35,24 +37,14 @@ impl<'a> NodeMemory<'a> {
         requires { place < length (trees self.now) }
         ensures { Stands (held self.now.interner) result place }
     {
-        match self.interner.key_at(place) {
-            Some(node) => node,
-            None => Node {
-                member: 0,
-                low: Diagram::none(),
-                high: Diagram::none(),
-            },
-        }
+        self.interner.key_at(place).unwrap()
     }
 
     // The top member of a diagram, and 49 where there is none.
     pub fn top(&self, diagram: Diagram) -> u8
         ensures { (t : Tree) → Denotes (trees self.now) diagram t → result ≡ top t }
     {
-        match self.node(diagram) {
-            Some(node) => node.member,
-            None => 49,
-        }
+        self.node(diagram).map_or(49, |node| node.member)
     }
 
     // Low and high where the member is the top one, else the diagram itself and none.
@@ -60,22 +52,15 @@ impl<'a> NodeMemory<'a> {
         ensures low { (t : Tree) → Denotes (trees self.now) diagram t → Denotes (trees self.now) result.low (low_at member t) }
         ensures high { (t : Tree) → Denotes (trees self.now) diagram t → Denotes (trees self.now) result.high (high_at member t) }
     {
-        let whole = Parts {
-            low: diagram,
-            high: Diagram::none(),
-        };
         match self.node(diagram) {
-            Some(node) => {
-                if node.member == member {
-                    Parts {
-                        low: node.low,
-                        high: node.high,
-                    }
-                } else {
-                    whole
-                }
-            }
-            None => whole,
+            Some(node) if node.member == member => Parts {
+                low: node.low,
+                high: node.high,
+            },
+            _ => Parts {
+                low: diagram,
+                high: Diagram::none(),
+            },
         }
     }
 

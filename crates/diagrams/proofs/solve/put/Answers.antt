@@ -1,11 +1,11 @@
-use Rattle.std.proofs.Common.{◌≡◌, length, refl}
+use Rattle.std.proofs.Common.{◌≡◌, length, refl, lit≤}
 use Rattle.families.specs.Questions.{sight, opens}
 use Rattle.families.proofs.Solving.{good_ask_member}
-use Rattle.diagrams.specs.declared.solve.stack.Pending.{Pending}
+use Rattle.diagrams.specs.declared.solve.Pending.{Pending}
 use Rattle.diagrams.specs.Asking.{ask_at}
 use Rattle.diagrams.specs.Memory.{trees}
 use Rattle.diagrams.specs.Solving.{told}
-use Rattle.diagrams.specs.Stacks.{pending}
+use Rattle.diagrams.specs.Stacks.{stacked}
 use Rattle.diagrams.proofs.Recalling.{opened_counts, recalled_arrives, recalled_counts, recalled_more}
 use Rattle.diagrams.proofs.Scripted.{seen_none, sight_arrives}
 use Rattle.diagrams.proofs.Stepping.{put_answers, put_deep, put_opens}
@@ -22,14 +22,14 @@ returns-in-Some g c =
       notes = refl;
       counts = λ k us ms final chain t. t;
       already = λ k. k;
-      steps = put_answers ts T T (λ r h. h) c.args.question (pending c.args.stack.now) a c.in-Some.answer arrives;
+      steps = put_answers ts T T (λ r h. h) c.args.question (stacked c.args.stack.now) a c.in-Some.answer arrives;
     }
 
 pub returns-in-Some-recall : goal.returns-in-Some-recall
 returns-in-Some-recall g c =
     let m = c.args.nodes.now in
     let a = c.requires.puttable in
-    let xs = pending c.args.stack.now in
+    let xs = stacked c.args.stack.now in
     let q = c.args.question in
     let K = g.M.Memo.keeps c.args.memo.now in
     let K' = g.M.Memo.keeps c.recall.new.self in
@@ -49,14 +49,14 @@ push-requires g c =
     let ts = trees c.args.nodes.now in
     let a = c.requires.puttable in
     let unseen : sight a.this ≡ opens = seen_none ts (sight a.this) (c.in_default.ensures a.this a.asks) in
-    (put_deep ts c.args.question (length (pending c.args.stack.now)) a unseen).1
+    (lit≤ tt, (put_deep ts c.args.question (length (stacked c.args.stack.now)) a unseen).1)
 
 pub returns : goal.returns
 returns g c =
     let m = c.args.nodes.now in
     let a = c.requires.puttable in
-    let xs = pending c.args.stack.now in
-    let ys = pending c.push.new.self in
+    let xs = stacked c.args.stack.now in
+    let ys = stacked c.push.new.self in
     let q = c.args.question in
     let K = g.M.Memo.keeps c.args.memo.now in
     let K' = g.M.Memo.keeps c.recall.new.self in

@@ -1,11 +1,11 @@
-use Rattle.std.proofs.Common.{sym, refl, subst}
+use Rattle.std.proofs.Common.{sym, refl, subst, lit≤}
 use Rattle.std.proofs.lemmas.Result.{MatchResult-from_err}
 use Rattle.families.specs.Outcomes.{answer}
-use Rattle.diagrams.specs.declared.solve.stack.Pending.{Pending}
+use Rattle.diagrams.specs.declared.solve.Pending.{Pending}
 use Rattle.diagrams.specs.Asking.{ask_at}
 use Rattle.diagrams.specs.Memory.{places, trees}
 use Rattle.diagrams.specs.Solving.{AllRight, Closed, Tally, told}
-use Rattle.diagrams.specs.Stacks.{pending}
+use Rattle.diagrams.specs.Stacks.{stacked}
 use Rattle.diagrams.proofs.Ending.{ends_closed, ends_counts, ends_notes, ends_steps}
 use Rattle.diagrams.proofs.Stepping.{grows_none}
 use Rattle.diagrams.proofs.Taking.{take_deep, take_fitting, take_grows, take_lacks, take_waits, takes_err}
@@ -16,23 +16,23 @@ pub push-requires : goal.push-requires
 push-requires g c =
     let ts = trees c.args.nodes.now in
     let T = told (g.M.Memo.keeps c.args.memo.now) ts (g.M.Memo.notes c.args.memo.now) in
-    take_deep ts T (pending c.args.stack.now) c.args.newest c.args.answer c.requires.due
+    (lit≤ tt, take_deep ts T (stacked c.args.stack.now) c.args.newest c.args.answer c.requires.due)
 
-pub join-requires : goal.join-requires
-join-requires g c =
+pub build-requires : goal.build-requires
+build-requires g c =
     let ts = trees c.args.nodes.now in
     let T = told (g.M.Memo.keeps c.args.memo.now) ts (g.M.Memo.notes c.args.memo.now) in
     let due = c.requires.due in
     let b = c.in-Done.ensures.continues ts due.pends.then (answer due.next) due.pends.awaits due.arrives.settled.denotes in
-    record { fitting = take_fitting ts T (pending c.args.stack.now) c.args.newest c.args.answer due c.in-Done.member c.in-Done.low c.in-Done.high b }
+    record { fitting = take_fitting ts T (stacked c.args.stack.now) c.args.newest c.args.answer due c.in-Done.member c.in-Done.low c.in-Done.high b }
 
 pub returns-in_err-built-in-Done : goal.returns-in_err-built-in-Done
 returns-in_err-built-in-Done g c =
     let ts = trees c.args.nodes.now in
-    let ts' = trees c.join.new.nodes in
+    let ts' = trees c.build.new.self in
     let K = g.M.Memo.keeps c.args.memo.now in
     let ns = g.M.Memo.notes c.args.memo.now in
-    let xs = pending c.args.stack.now in
+    let xs = stacked c.args.stack.now in
     let x = c.args.newest in
     let due = c.requires.due in
     let b = c.in-Done.ensures.continues ts due.pends.then (answer due.next) due.pends.awaits due.arrives.settled.denotes in
@@ -54,8 +54,8 @@ returns-in-Wait g c =
     let ts = trees c.args.nodes.now in
     let K = g.M.Memo.keeps c.args.memo.now in
     let ns = g.M.Memo.notes c.args.memo.now in
-    let xs = pending c.args.stack.now in
-    let ys = pending c.push.new.self in
+    let xs = stacked c.args.stack.now in
+    let ys = stacked c.push.new.self in
     let x = c.args.newest in
     let y : Pending = record { question = x.question; frame = c.in-Wait.wait.frame } in
     let due = c.requires.due in
@@ -75,12 +75,12 @@ returns-in-Wait g c =
 pub returns-in_ok-built-in-Done : goal.returns-in_ok-built-in-Done
 returns-in_ok-built-in-Done g c =
     let ts = trees c.args.nodes.now in
-    let ts' = trees c.join.new.nodes in
+    let ts' = trees c.build.new.self in
     let K = g.M.Memo.keeps c.args.memo.now in
     let K' = g.M.Memo.keeps c.note.new.self in
     let ns = g.M.Memo.notes c.args.memo.now in
     let ns' = g.M.Memo.notes c.note.new.self in
-    let xs = pending c.args.stack.now in
+    let xs = stacked c.args.stack.now in
     let x = c.args.newest in
     let due = c.requires.due in
     let v = c.in-Done.member in

@@ -2,7 +2,7 @@ use Rattle.std.proofs.Common.{length, ◌∙◌, arith}
 use Rattle.diagrams.specs.declared.node.Node.{Node}
 use Rattle.diagrams.specs.NodeKeys.{NamesBelow, node_tree}
 use Rattle.diagrams.specs.Memory.{trees}
-use Rattle.diagrams.proofs.Built.{key_proper, key_built, key_refused, rooted_interned, good_interned}
+use Rattle.diagrams.proofs.Built.{key_proper, key_made, key_refused, rooted_interned, good_interned}
 use Rattle.diagrams.proofs.Memories.{names_held, lifted}
 use Rattle.diagrams.proofs.nodes.NodeMemory.build.Goals as goal
 
@@ -26,9 +26,9 @@ returns-in-Ok c =
     let k : Node = record { member = c.args.member; low = c.args.low; high = c.args.high } in
     let names : NamesBelow (length (trees m)) k = (c.requires.fitting.low_held, c.requires.fitting.high_held) in
     record {
-      built = λ l h x y.
+      joins = λ l h x y.
           simp c.ok_or.ensures.value
-          (key_built m k names (λ e. c.in_default.not-None (c.view.ensures ∙ e)) _ l h x y c.in-Ok.place c.node.result _ c.node.ensures (c.in-Ok.ensures.interned m.sound));
+          (key_made m k names (λ e. c.in_default.not-None (c.view.ensures ∙ e)) _ l h x y c.in-Ok.place c.node.result _ c.node.ensures (c.in-Ok.ensures.interned m.sound));
       places = c.intern.ensures.capacity;
       named = c.intern.ensures.named;
     }
@@ -39,7 +39,7 @@ returns-in-Err c =
     let k : Node = record { member = c.args.member; low = c.args.low; high = c.args.high } in
     let names : NamesBelow (length (trees m)) k = (c.requires.fitting.low_held, c.requires.fitting.high_held) in
     record {
-      built = λ l h x y. key_refused m k names (λ e. c.in_default.not-None (c.view.ensures ∙ e)) _ l h x y c.in-Err.full (c.in-Err.ensures.interned m.sound);
+      joins = λ l h x y. key_refused m k names (λ e. c.in_default.not-None (c.view.ensures ∙ e)) _ l h x y c.in-Err.full (c.in-Err.ensures.interned m.sound);
       places = c.intern.ensures.capacity;
       named = c.intern.ensures.named;
     }

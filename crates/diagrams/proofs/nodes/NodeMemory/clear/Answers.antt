@@ -15,9 +15,5 @@ invariant_of-self c =
       good = good_none _ c.clear.ensures.held;
     }
 
-pub returns : goal.returns
-returns c = record {
-  trees = ap (decode node_tree) c.clear.ensures.held ∙ decode_none node_tree;
-  places = c.clear.ensures.capacity;
-  named = c.clear.ensures.named;
-}
+pub returns-clause-trees : goal.returns-clause-trees
+returns-clause-trees c = ap (decode node_tree) c.clear.ensures.held ∙ decode_none node_tree

@@ -1,10 +1,12 @@
+use Rattle.std.proofs.Common.{arith}
+use Rattle.diagrams.specs.Collecting.{marks, moves}
 use Rattle.diagrams.specs.Memory.{trees}
 use Rattle.diagrams.proofs.Collects.{collected}
 use Rattle.diagrams.proofs.nodes.NodeMemory.collect.Goals as goal
 
-pub returns : goal.returns
-returns c = record {
-  collected = collected c.args.self.now c.mark.new.marks c.mark.ensures.closed c.args.roots.now (trees c.refill.new.self) c.refill.new.moves c.move_roots.new.roots c.mark.ensures.sparing c.mark.ensures.covers c.refill.ensures.moved c.move_roots.ensures;
-  places = c.refill.ensures.places;
-  named = c.refill.ensures.named;
-}
+pub returns-clause-collected : goal.returns-clause-collected
+returns-clause-collected c =
+    let m = c.args.self.now in (
+      omega arith,
+      collected m (marks c.mark.new.cells) c.mark.ensures.closed c.args.roots.now (trees c.refill.new.self) (moves c.refill.new.cells) c.move_roots.new.roots c.mark.ensures.sparing c.mark.ensures.covers c.refill.ensures.moved c.move_roots.ensures,
+    )

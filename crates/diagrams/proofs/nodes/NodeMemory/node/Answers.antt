@@ -1,8 +1,11 @@
-use Rattle.std.proofs.Common.{sym}
-use Rattle.diagrams.proofs.Opened.{opened_read}
+use Rattle.std.proofs.Common.{subst}
+use Rattle.interning.specs.Model.{held}
+use Rattle.memos.specs.Diagrams.{seen}
+use Rattle.diagrams.specs.Building.{NamedNode}
+use Rattle.diagrams.proofs.Opened.{opened_named}
 use Rattle.diagrams.proofs.nodes.NodeMemory.node.Goals as goal
 
-pub returns-in-Node : goal.returns-in-Node
-returns-in-Node c =
+pub returns-in-Node-clause-opened : goal.returns-in-Node-clause-opened
+returns-in-Node-clause-opened c t den =
     let m = c.args.self.now in
-    opened_read m c.args.diagram c.in-Node.place c.key_at.result (sym c.in-Node.ensures) (c.key_at.ensures m.sound)
+    opened_named m (seen c.args.diagram) _ (subst (λ v. NamedNode (held m.interner) v c.key_at.result) c.in-Node.ensures (c.key_at.ensures m.sound)) t den.within den.is

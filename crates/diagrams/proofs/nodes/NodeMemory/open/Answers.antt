@@ -15,5 +15,5 @@ invariant_of-result c =
       good = good_none _ c.open.ensures.held;
     }
 
-pub returns : goal.returns
-returns c = record { trees = ap (decode node_tree) c.open.ensures.held ∙ decode_none node_tree; places = omega (arith, simp length-take at c.open.ensures.capacity) }
+pub returns-clause-trees : goal.returns-clause-trees
+returns-clause-trees c = ap (decode node_tree) c.open.ensures.held ∙ decode_none node_tree

@@ -1,41 +1,41 @@
-use Rattle.std.proofs.Common.{◌≡◌, length, refl, ◌∙◌, subst, arith}
+use Rattle.std.proofs.Common.{◌≡◌, ◌+◌, None, is_some, length, get_or, sym, refl, ap, ◌∙◌, subst, arith}
+use Rattle.std.proofs.Math.Seq.{map-set_same}
+use Rattle.std.proofs.lemmas.List.{length-map, map-set}
 use Rattle.interning.proofs.Members.{apart_once}
-use Rattle.diagrams.specs.Collecting.{Moved, trees_of}
+use Rattle.diagrams.specs.Collecting.{Moved, blank, marks, moves}
 use Rattle.diagrams.specs.Memory.{trees, places}
+use Rattle.diagrams.proofs.Marks.{copy_at, mark_at}
 use Rattle.diagrams.proofs.Memories.{memory_apart}
-use Rattle.diagrams.proofs.Moves.{moved_none, moved_unmarked}
-use Rattle.diagrams.proofs.Refills.{refill_fitting, refill_placed, refill_never, trees_copied}
+use Rattle.diagrams.proofs.Moves.{fitting, moved_next, moved_unmarked, never_refused}
 use Rattle.diagrams.proofs.nodes.NodeMemory.refill.Goals as goal
 
-pub loop-place-init : goal.loop-place-init
-loop-place-init c = (refl, refl, moved_none _ _ _ _ c.clear.ensures.trees)
-
 pub build-requires : goal.build-requires
-build-requires c = record {
-  fitting = refill_fitting c.args.self.now c.len-len.result c.copy.new.nodes c.len-len.ensures c.copy.ensures c.args.marks.now c.requires.closed c.loop-place.place _ c.loop-place-test.true c.if-not-marks-place.false (trees c.loop-place.self) c.loop-place.moves c.loop-place.invariant.2 c.moved-low.result c.moved-high.result c.moved-low.ensures c.moved-high.ensures;
-}
+build-requires c =
+    let inv = c.loop-place.invariant in
+    record { fitting = fitting c.args.self.now c.args.cells.now c.loop-place.cells c.requires.closed c.requires.copied inv.stay c.loop-place.place (omega arith) c.in-Some.node c.in-Some.is (trees c.loop-place.self) inv.moved _ _ c.moved-low.ensures c.moved-high.ensures }
 
-pub loop-place-preserved-then-not-marks-place : goal.loop-place-preserved-then-not-marks-place
-loop-place-preserved-then-not-marks-place c = (c.loop-place.invariant.0, c.loop-place.invariant.1, moved_unmarked _ _ _ _ _ c.if-not-marks-place.true c.loop-place.invariant.2)
+pub unwrap-diagram-requires : goal.unwrap-diagram-requires
+unwrap-diagram-requires c =
+    let inv = c.loop-place.invariant in
+    never_refused c.args.self.now c.args.cells.now c.loop-place.cells c.requires.closed c.requires.copied inv.stay c.loop-place.place (omega arith) c.in-Some.node c.in-Some.is (trees c.loop-place.self) inv.moved _ _ c.moved-low.ensures c.moved-high.ensures (places c.loop-place.self) c.build.result (trees c.build.new.self) c.build.ensures.joins (apart_once _ (memory_apart c.loop-place.self)) inv.same.room
+
+pub loop-place-preserved-in_default : goal.loop-place-preserved-in_default
+loop-place-preserved-in_default c =
+    let inv = c.loop-place.invariant in
+    let not = mark_at c.args.cells.now _ ∙ ap is_some (sym (copy_at c.args.cells.now _) ∙ ap (λ os. get_or os c.loop-place.place None) (sym inv.stay) ∙ copy_at c.loop-place.cells _ ∙ c.in_default.is) in
+    record { same = inv.same; stay = inv.stay; moved = moved_unmarked _ _ _ _ _ not inv.moved }
 
 pub loop-place-preserved : goal.loop-place-preserved
-loop-place-preserved c = (
-  c.build.ensures.places ∙ c.loop-place.invariant.0,
-  c.build.ensures.named ∙ c.loop-place.invariant.1,
-  refill_placed c.args.self.now c.len-len.result c.copy.new.nodes c.len-len.ensures c.copy.ensures c.args.marks.now c.requires.closed c.loop-place.place _ c.loop-place-test.true c.if-not-marks-place.false (trees c.loop-place.self) c.loop-place.moves c.loop-place.invariant.2 c.moved-low.result c.moved-high.result c.moved-low.ensures c.moved-high.ensures c.in-Ok.diagram (trees c.build.new.self) c.in-Ok.ensures.built (omega (arith, c.requires.moves, c.loop-place.auto.moves)),
-)
-
-pub returns-in-Err : goal.returns-in-Err
-returns-in-Err c =
-    absurd (refill_never c.args.self.now c.len-len.result c.copy.new.nodes c.len-len.ensures c.copy.ensures c.args.marks.now c.requires.closed c.loop-place.place _ c.loop-place-test.true c.if-not-marks-place.false (trees c.loop-place.self) c.loop-place.moves c.loop-place.invariant.2 c.moved-low.result c.moved-high.result c.moved-low.ensures c.moved-high.ensures (places c.loop-place.self) (trees c.build.new.self) (apart_once _ (memory_apart c.loop-place.self)) (c.loop-place.invariant.0 ∙ c.clear.ensures.places) c.in-Err.ensures.built)
-
-pub returns : goal.returns
-returns c =
-    let m = c.args.self.now in
-    let end : c.loop-place.place ≡ length (trees m) = omega (arith, c.len-len.ensures, c.loop-place.auto.place-end) in
+loop-place-preserved c =
+    let inv = c.loop-place.invariant in
+    let next = moved_next c.args.self.now c.args.cells.now c.loop-place.cells c.requires.closed c.requires.copied inv.stay c.loop-place.place (omega arith) c.in-Some.node c.in-Some.is (trees c.loop-place.self) inv.moved _ _ c.moved-low.ensures c.moved-high.ensures (places c.loop-place.self) c.build.result (trees c.build.new.self) c.build.ensures.joins c.unwrap-diagram.result c.unwrap-diagram.ensures (simp length-map (omega arith)) in
     record {
-      moved = subst (λ ts. Moved ts c.args.marks.now (length (trees m)) (trees c.loop-place.self) c.loop-place.moves) (trees_copied m c.len-len.result c.copy.new.nodes c.len-len.ensures c.copy.ensures)
-          (subst (λ n. Moved (trees_of c.len-len.result c.copy.new.nodes) c.args.marks.now n (trees c.loop-place.self) c.loop-place.moves) end c.loop-place.invariant.2);
-      places = c.loop-place.invariant.0 ∙ c.clear.ensures.places;
-      named = c.loop-place.invariant.1 ∙ c.clear.ensures.named;
+      same = record { room = c.build.ensures.places ∙ inv.same.room; named = c.build.ensures.named ∙ inv.same.named };
+      stay = map-set_same _ c.loop-place.cells _ _ blank refl ∙ inv.stay;
+      moved = subst (Moved (trees c.args.self.now) (marks c.args.cells.now) (c.loop-place.place + 1) (trees c.build.new.self)) (sym (map-set _ c.loop-place.cells _ _)) next;
     }
+
+pub returns-clause-moved : goal.returns-clause-moved
+returns-clause-moved c =
+    let end : c.loop-place.place ≡ length (trees c.args.self.now) = omega arith in
+    subst (λ n. Moved (trees c.args.self.now) (marks c.args.cells.now) n (trees c.loop-place.self) (moves c.loop-place.cells)) end c.loop-place.invariant.moved

@@ -1,8 +1,11 @@
 use Rattle.std.proofs.Common.{◌≡◌}
-use Rattle.diagrams.specs.Collecting.{Moved, trees_of}
-use Rattle.diagrams.specs.Memory.{places, trees}
+use Rattle.diagrams.specs.Collecting.{Moved, copies, marks, moves}
+use Rattle.diagrams.specs.Memory.{SameMemory, trees}
 use Rattle.diagrams.proofs.nodes.NodeMemory.refill.Given as goal
 
 abbrev pub invariant-loop-place : goal.invariant-loop-place
-invariant-loop-place l =
-    (places l.self ≡ places l.initial.self) × (l.self.interner.slots.ghost_name ≡ l.initial.self.interner.slots.ghost_name) × Moved (trees_of l.len l.nodes) l.marks l.place (trees l.self) l.moves
+invariant-loop-place l = record {
+  same : SameMemory l.fn.self l.self;
+  stay : copies l.cells ≡ copies l.initial.cells;
+  moved : Moved (trees l.fn.self) (marks l.initial.cells) l.place (trees l.self) (moves l.cells);
+}

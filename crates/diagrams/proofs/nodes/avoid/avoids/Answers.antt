@@ -1,12 +1,10 @@
-use Rattle.std.proofs.Common.{◌≡◌, not, sym, ◌∙◌}
+use Rattle.std.proofs.Common.{◌≡◌, not, ap, ◌∙◌}
+use Rattle.std.proofs.Math.Bool.{not-not}
 use Rattle.diagrams.specs.Avoiding.{apart}
-use Rattle.diagrams.proofs.Avoids.{apart_members, not_not}
+use Rattle.diagrams.proofs.Avoids.{apart_members}
 use Rattle.diagrams.proofs.nodes.avoid.avoids.Goals as goal
 
-pub returns : goal.returns
-returns c =
-    let same : not c.meets.result ≡ apart c.args.group c.args.other = not_not c.meets.result (apart c.args.group c.args.other) c.meets.ensures.bits in
-    record {
-      bits = same;
-      members = λ q. let k = apart_members c.args.group c.args.other q in ((λ e. k.0 (sym same ∙ e)), λ no. same ∙ k.1 no);
-    }
+pub returns-clause-members : goal.returns-clause-members
+returns-clause-members c q =
+    let same : not c.meets.result ≡ apart c.args.group c.args.other = ap not c.meets.ensures.bits ∙ not-not _ in
+    rw same (apart_members c.args.group c.args.other q)

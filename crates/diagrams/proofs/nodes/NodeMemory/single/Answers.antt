@@ -1,0 +1,19 @@
+use Rattle.std.proofs.Common.{arith}
+use Rattle.families.specs.Trees.{none, always}
+use Rattle.families.proofs.Weights.{is_member_lem}
+use Rattle.diagrams.specs.Memory.{places, trees}
+use Rattle.diagrams.proofs.Built.{single_makes}
+use Rattle.diagrams.proofs.Opened.{none_denotes}
+use Rattle.diagrams.proofs.Sighted.{always_denotes}
+use Rattle.diagrams.proofs.nodes.NodeMemory.single.Goals as goal
+
+pub returns : goal.returns
+returns c =
+    let m = c.args.self.now in
+    let low = none_denotes (trees m) c.none-2.result c.none-2.ensures in
+    let high = always_denotes (trees m) c.always.result c.always.ensures in
+    record {
+      makes = single_makes (places m) (trees m) c.args.member c.build.result _ (is_member_lem c.args.member (omega arith)) (c.build.ensures.joins none always low high);
+      places = c.build.ensures.places;
+      named = c.build.ensures.named;
+    }

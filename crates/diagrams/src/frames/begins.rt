@@ -1,0 +1,121 @@
+//! What an opened question of each kind waits for first: the answer on the low parts.
+ghost use Rattle.std.specs.Prelude.{◌≤◌};
+ghost use Rattle.families.specs.Trees.{Tree};
+ghost use Rattle.families.specs.Questions.{either, both, less, turn, off, on};
+ghost use Rattle.families.specs.Scripts.{script};
+ghost use Rattle.diagrams.specs.Building.{Denotes};
+ghost use Rattle.diagrams.specs.Frames.{Halved, Waits, ahead};
+ghost use Rattle.diagrams.specs.Memory.{trees};
+
+use super::{BothFrame, Frame, Halves, LessFrame, TurnFrame, Wait};
+use crate::nodes::NodeMemory;
+use memos::diagram::Diagram;
+use memos::question::Question;
+
+// Takes two operands apart at the smaller of their top members.
+fn split(nodes: &NodeMemory<'_>, f: Diagram, g: Diagram) -> Halves
+    ensures { (s t : Tree) → Denotes (trees nodes.now) f s → Denotes (trees nodes.now) g t → Halved (trees nodes.now) result s t }
+{
+    let member = nodes.top(f).min(nodes.top(g));
+    let f = nodes.parts(f, member);
+    let g = nodes.parts(g, member);
+    Halves {
+        member,
+        f0: f.low,
+        f1: f.high,
+        g0: g.low,
+        g1: g.high,
+    }
+}
+
+// What passes one of two.
+pub(super) fn begin_either(nodes: &NodeMemory<'_>, f: Diagram, g: Diagram) -> Wait
+    ensures waits { (s t : Tree) → Denotes (trees nodes.now) f s → Denotes (trees nodes.now) g t → Waits (trees nodes.now) result (script (either s t)) }
+    ensures few { ahead result.frame ≤ 6 }
+{
+    let halves = split(nodes, f, g);
+    Wait {
+        frame: Frame::EitherLow {
+            member: halves.member,
+            f1: halves.f1,
+            g1: halves.g1,
+        },
+        question: Question::Either(halves.f0, halves.g0),
+    }
+}
+
+// What passes both of two.
+pub(super) fn begin_both(nodes: &NodeMemory<'_>, f: Diagram, g: Diagram) -> Wait
+    ensures waits { (s t : Tree) → Denotes (trees nodes.now) f s → Denotes (trees nodes.now) g t → Waits (trees nodes.now) result (script (both s t)) }
+    ensures few { ahead result.frame ≤ 6 }
+{
+    let halves = split(nodes, f, g);
+    Wait {
+        frame: Frame::Both(BothFrame::Low { halves }),
+        question: Question::Both(halves.f0, halves.g0),
+    }
+}
+
+// The groups of the first that contain none of the second.
+pub(super) fn begin_less(nodes: &NodeMemory<'_>, f: Diagram, g: Diagram) -> Wait
+    ensures waits { (s t : Tree) → Denotes (trees nodes.now) f s → Denotes (trees nodes.now) g t → Waits (trees nodes.now) result (script (less s t)) }
+    ensures few { ahead result.frame ≤ 6 }
+{
+    let halves = split(nodes, f, g);
+    Wait {
+        frame: Frame::Less(LessFrame::Low {
+            member: halves.member,
+            f1: halves.f1,
+            g0: halves.g0,
+            g1: halves.g1,
+        }),
+        question: Question::Less(halves.f0, halves.g0),
+    }
+}
+
+// The smallest groups that stop a family.
+pub(super) fn begin_turn(nodes: &NodeMemory<'_>, f: Diagram) -> Wait
+    ensures waits { (t : Tree) → Denotes (trees nodes.now) f t → Waits (trees nodes.now) result (script (turn t)) }
+    ensures few { ahead result.frame ≤ 6 }
+{
+    let member = nodes.top(f);
+    let f = nodes.parts(f, member);
+    Wait {
+        frame: Frame::Turn(TurnFrame::Low { member, f1: f.high }),
+        question: Question::Turn(f.low),
+    }
+}
+
+// The groups without a member.
+pub(super) fn begin_off(nodes: &NodeMemory<'_>, f: Diagram, away: u8) -> Wait
+    ensures waits { (t : Tree) → Denotes (trees nodes.now) f t → Waits (trees nodes.now) result (script (off t away)) }
+    ensures few { ahead result.frame ≤ 6 }
+{
+    let member = nodes.top(f);
+    let f = nodes.parts(f, member);
+    Wait {
+        frame: Frame::OffLow {
+            member,
+            f1: f.high,
+            away,
+        },
+        question: Question::Off(f.low, away),
+    }
+}
+
+// The groups with a member, which is taken out.
+pub(super) fn begin_on(nodes: &NodeMemory<'_>, f: Diagram, away: u8) -> Wait
+    ensures waits { (t : Tree) → Denotes (trees nodes.now) f t → Waits (trees nodes.now) result (script (on t away)) }
+    ensures few { ahead result.frame ≤ 6 }
+{
+    let member = nodes.top(f);
+    let f = nodes.parts(f, member);
+    Wait {
+        frame: Frame::OnLow {
+            member,
+            f1: f.high,
+            away,
+        },
+        question: Question::On(f.low, away),
+    }
+}

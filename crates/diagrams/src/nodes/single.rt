@@ -1,0 +1,22 @@
+//! The family of one member: its only group is that member alone.
+ghost use Rattle.std.specs.Prelude.{◌≡◌};
+ghost use Rattle.diagrams.specs.Building.{Makes, single_made, single_tree};
+ghost use Rattle.diagrams.specs.Memory.{places, trees};
+
+use super::NodeMemory;
+use interning::interner::Full;
+use memos::diagram::Diagram;
+
+impl<'a> NodeMemory<'a> {
+    // The diagram of a member alone, and of no group where the number is no member.
+    pub fn single(&mut self, member: u8) -> Result<Diagram, Full>
+        ensures makes { Makes (places self.old) (trees self.old) (single_tree member) (single_made member) result (trees self.new) }
+        ensures places { places self.new ≡ places self.old }
+        ensures named { self.new.interner.slots.ghost_name ≡ self.old.interner.slots.ghost_name }
+    {
+        if member < 1 || member > 48 {
+            return Ok(Diagram::none());
+        }
+        self.build(member, Diagram::none(), Diagram::always())
+    }
+}

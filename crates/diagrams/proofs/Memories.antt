@@ -34,13 +34,13 @@ module _ (m : NodeMemory) where
   memory_each = decode_each readable (held m.interner) memory_rooted
 
   pub memory_apart : Apart (trees m)
-  memory_apart = decode_apart readable (held m.interner) memory_rooted (held_apart m.interner m.sound)
+  memory_apart = decode_apart readable (held m.interner) memory_rooted (held_apart m.interner)
 
   pub memory_proper : Each Proper (trees m)
   memory_proper = each_out (trees m) m.good
 
   pub memory_fits : length (trees m) ≤ places m
-  memory_fits = omega (arith, length_decode node_tree (held m.interner), held_fits m.interner m.sound)
+  memory_fits = omega (arith, length_decode node_tree (held m.interner), held_fits m.interner)
 
   -- what a diagram of the memory denotes is the tree of a family
   pub denotes_good : (d : Diagram) (t : Tree) → Denotes (trees m) d t → Good 1 t
@@ -56,7 +56,7 @@ module _ (m : NodeMemory) where
 
   -- to intern a node is to intern its tree
   pub lifted : (k : Node) (r : Result ℕ Full) (ks : List Node) → NamesBelow (length (trees m)) k → Interned (places m) (held m.interner) k r ks → Interned (places m) (trees m) (node_tree (trees m) k) r (decode node_tree ks)
-  lifted k r ks names = decode_interned readable (held m.interner) k memory_rooted (held_apart m.interner m.sound) (names_held k names) _ r ks
+  lifted k r ks names = decode_interned readable (held m.interner) k memory_rooted (held_apart m.interner) (names_held k names) _ r ks
 
   -- the node at a place names earlier places, and its tree is the one there
   pub place_names : (p : ℕ) (k : Node) → Stands (held m.interner) k p → NamesBelow p k

@@ -11,4 +11,3 @@ pub mod Frames
 pub mod Stacks
 pub mod Walking
 pub mod Solving
-pub mod NodeLaws

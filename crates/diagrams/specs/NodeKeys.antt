@@ -1,5 +1,5 @@
--- Nodes over the places of other nodes: hash and equality of such keys, and the trees that they stand for.
-use Rattle.std.specs.Prelude.{ℕ, ◌+◌, ◌%◌, ◌^◌, ◌<◌, Bool, ◌&&◌, List, ◌==◌, slice_index_or}
+-- Nodes over the places of other nodes: the hash of such keys, and the trees that they stand for.
+use Rattle.std.specs.Prelude.{ℕ, ◌+◌, ◌%◌, ◌^◌, ◌<◌, List, slice_index_or}
 use Rattle.interning.specs.Hash.{mixed, finished}
 use Rattle.memos.specs.declared.diagram.Diagram.{Diagram}
 use Rattle.memos.specs.declared.diagram.View.{View}
@@ -17,10 +17,6 @@ word (Placed place) = (place + 2) % 2 ^ 32
 -- the hash of a node
 abbrev pub node_mark : Node → ℕ
 node_mark n = finished (mixed (mixed n.member (word (seen n.low))) (word (seen n.high)))
-
--- whether two nodes agree in member and parts
-abbrev pub same_node : Node → Node → Bool
-same_node m n = m.member == n.member && (m.low.code == n.low.code && m.high.code == n.high.code)
 
 -- the place that a name has, if any, is below a bound
 abbrev pub Below : ℕ → View → Type 0

@@ -2,11 +2,11 @@
 //! Nodes are told by their trees: equal trees have one place, and two diagrams are the same exactly when their trees are.
 ghost use Rattle.std.specs.Prelude.{◌≡◌, ◌+◌, ◌^◌, ◌≤◌};
 ghost use Rattle.interning.specs.Decode.{Rooted, decode};
-ghost use Rattle.interning.specs.Model.{Sound, held, capacity};
+ghost use Rattle.interning.specs.Model.{held, capacity};
 ghost use Rattle.interning.specs.Places.{Each};
 ghost use Rattle.families.specs.Good.{Proper};
 ghost use Rattle.diagrams.specs.Collecting.{blank};
-ghost use Rattle.diagrams.specs.NodeKeys.{NamesBelow, node_mark, node_tree};
+ghost use Rattle.diagrams.specs.NodeKeys.{NamesBelow, node_tree};
 
 use crate::node::Node;
 use interning::interner::Interner;
@@ -29,7 +29,6 @@ mod single;
 pub struct NodeMemory<'a> {
     interner: Interner<'a, Node>,
     ghost few: { capacity interner + 2 ≤ 2 ^ 32 },
-    ghost sound: { Sound node_mark interner },
     ghost rooted: { ∥ Rooted NamesBelow (held interner) ∥₁ },
     ghost good: { ∥ Each Proper (decode node_tree (held interner)) ∥₁ },
 }

@@ -11,11 +11,10 @@ invariant_of-self c =
     let m = c.args.self.now in
     let k : Node = record { member = c.args.member; low = c.args.low; high = c.args.high } in
     let names : NamesBelow (length (trees m)) k = (c.requires.fitting.low_held, c.requires.fitting.high_held) in
-    let interned = c.intern.ensures.interned m.sound in
+    let interned = c.intern.ensures.interned in
     let proper = key_proper m k names (λ e. c.in_default.not-None (c.view.ensures ∙ e)) c.requires.fitting.good in
     record {
       few = omega (arith, m.few, c.intern.ensures.capacity);
-      sound = c.intern.ensures.sound m.sound;
       rooted = rooted_interned _ _ k c.intern.result _ m.rooted (names_held m k names) interned;
       good = good_interned _ _ (node_tree (trees m) k) c.intern.result _ m.good proper (lifted m k c.intern.result _ names interned);
     }
@@ -28,7 +27,7 @@ returns-in-Ok c =
     record {
       joins = λ l h x y.
           simp c.ok_or.ensures.value
-          (key_made m k names (λ e. c.in_default.not-None (c.view.ensures ∙ e)) _ l h x y c.in-Ok.place c.node.result _ c.node.ensures (c.in-Ok.ensures.interned m.sound));
+          (key_made m k names (λ e. c.in_default.not-None (c.view.ensures ∙ e)) _ l h x y c.in-Ok.place c.node.result _ c.node.ensures c.in-Ok.ensures.interned);
       places = c.intern.ensures.capacity;
       named = c.intern.ensures.named;
     }
@@ -39,7 +38,7 @@ returns-in-Err c =
     let k : Node = record { member = c.args.member; low = c.args.low; high = c.args.high } in
     let names : NamesBelow (length (trees m)) k = (c.requires.fitting.low_held, c.requires.fitting.high_held) in
     record {
-      joins = λ l h x y. key_refused m k names (λ e. c.in_default.not-None (c.view.ensures ∙ e)) _ l h x y c.in-Err.full (c.in-Err.ensures.interned m.sound);
+      joins = λ l h x y. key_refused m k names (λ e. c.in_default.not-None (c.view.ensures ∙ e)) _ l h x y c.in-Err.full c.in-Err.ensures.interned;
       places = c.intern.ensures.capacity;
       named = c.intern.ensures.named;
     }

@@ -9,8 +9,7 @@ use Rattle.diagrams.proofs.nodes.NodeMemory.clear.Goals as goal
 pub invariant_of-self : goal.invariant_of-self
 invariant_of-self c =
     record {
-      few = omega (arith, c.args.self.now.few, c.clear.ensures.capacity);
-      sound = c.clear.ensures.sound;
+      few = omega (arith, c.args.self.now.few, c.clear.ensures.slots.capacity);
       rooted = rooted_none _ c.clear.ensures.held;
       good = good_none _ c.clear.ensures.held;
     }

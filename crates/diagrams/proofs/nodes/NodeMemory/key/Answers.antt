@@ -13,4 +13,4 @@ read_some ks i None l r = absurd (omega arith)
 pub unwrap-requires : goal.unwrap-requires
 unwrap-requires c =
     let m = c.args.self.now in
-    read_some (held m.interner) c.args.place c.key_at.result (omega (arith, length_decode node_tree (held m.interner))) (c.key_at.ensures m.sound)
+    read_some (held m.interner) c.args.place c.key_at.result (omega (arith, length_decode node_tree (held m.interner))) c.key_at.ensures

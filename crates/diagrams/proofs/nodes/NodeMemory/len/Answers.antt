@@ -5,4 +5,4 @@ use Rattle.diagrams.specs.NodeKeys.{node_tree}
 use Rattle.diagrams.proofs.nodes.NodeMemory.len.Goals as goal
 
 pub returns : goal.returns
-returns c = c.len.ensures.held c.args.self.now.sound ∙ sym (length_decode node_tree (held c.args.self.now.interner))
+returns c = c.len.ensures.held ∙ sym (length_decode node_tree (held c.args.self.now.interner))

@@ -8,4 +8,4 @@ use Rattle.diagrams.proofs.nodes.NodeMemory.node.Goals as goal
 pub returns-in-Node-clause-opened : goal.returns-in-Node-clause-opened
 returns-in-Node-clause-opened c t den =
     let m = c.args.self.now in
-    opened_named m (seen c.args.diagram) _ (subst (λ v. NamedNode (held m.interner) v c.key_at.result) c.in-Node.ensures (c.key_at.ensures m.sound)) t den.within den.is
+    opened_named m (seen c.args.diagram) _ (subst (λ v. NamedNode (held m.interner) v c.key_at.result) c.in-Node.ensures c.key_at.ensures) t den.within den.is

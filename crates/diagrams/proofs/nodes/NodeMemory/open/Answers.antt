@@ -10,7 +10,6 @@ pub invariant_of-result : goal.invariant_of-result
 invariant_of-result c =
     record {
       few = omega (arith, simp length-take at c.open.ensures.capacity);
-      sound = c.open.ensures.sound;
       rooted = rooted_none _ c.open.ensures.held;
       good = good_none _ c.open.ensures.held;
     }

@@ -95,10 +95,9 @@ module _ (m : NodeMemory) (p : ℕ) (k : Node) (stands : Stands (held m.interner
   good = subst (Good 1) (sym (build_node k.member low_tree high_tree proper.good.some)) proper.good
 
   -- so the node may be built over its moved parts
-  pub fitting : Fitting ts' k.member (moved_as ms k.low (seen k.low)) (moved_as ms k.high (seen k.high))
+  pub fitting : Fitting ts' (record { member = k.member; low = moved_as ms k.low (seen k.low); high = moved_as ms k.high (seen k.high) })
   fitting = record {
-    low_held = low_moved.within;
-    high_held = high_moved.within;
+    names = (low_moved.within, high_moved.within);
     good = subst (λ t. Good 1 (build k.member t (tree_at ts' (moved_as ms k.high (seen k.high))))) (sym low_moved.is) (subst (λ t. Good 1 (build k.member low_tree t)) (sym high_moved.is) good);
   }
 

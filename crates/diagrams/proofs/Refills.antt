@@ -40,10 +40,10 @@ module _ (m : NodeMemory) (n : ℕ) (nodes : List Node) (all : n ≡ length (tre
   at_high : Denotes ts' high high_of
   at_high = subst (λ x. Denotes ts' x high_of) (sym is-high) (high_moved m p (get_or nodes p e) stands bs closed marked ts' ms old)
 
-  pub refill_fitting : Fitting ts' (get_or nodes p e).member low high
+  pub refill_fitting : Fitting ts' (record { member = (get_or nodes p e).member; low = low; high = high })
   refill_fitting =
-      subst (λ x. Fitting ts' (get_or nodes p e).member x high) (sym is-low)
-      (subst (λ x. Fitting ts' (get_or nodes p e).member (moved_as ms (get_or nodes p e).low (seen (get_or nodes p e).low)) x) (sym is-high) (fitting m p (get_or nodes p e) stands bs closed marked ts' ms old))
+      subst (λ x. Fitting ts' (record { member = (get_or nodes p e).member; low = x; high = high })) (sym is-low)
+      (subst (λ x. Fitting ts' (record { member = (get_or nodes p e).member; low = moved_as ms (get_or nodes p e).low (seen (get_or nodes p e).low); high = x })) (sym is-high) (fitting m p (get_or nodes p e) stands bs closed marked ts' ms old))
 
   pub refill_placed : (d : Diagram) (ts'' : List Tree) → ((l h : Tree) → Denotes ts' low l → Denotes ts' high h → Made ts' (build (get_or nodes p e).member l h) (made (get_or nodes p e).member l h) d ts'') → p < length ms → Moved (trees_of n nodes) bs (p + 1) ts'' (set ms p d)
   refill_placed d ts'' joined room =

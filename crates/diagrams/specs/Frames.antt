@@ -14,6 +14,7 @@ use Rattle.diagrams.specs.declared.frames.Halves.{Halves}
 use Rattle.diagrams.specs.declared.frames.Next.{Next}
 use Rattle.diagrams.specs.declared.frames.Next.TheVariants.{Wait as Waiting, Done}
 use Rattle.diagrams.specs.declared.frames.Wait.{Wait}
+use Rattle.diagrams.specs.declared.node.Node.{Node}
 use Rattle.diagrams.specs.Asking.{Asks}
 use Rattle.diagrams.specs.Building.{Denotes}
 use Rattle.diagrams.specs.NodeKeys.{Below, tree_at}
@@ -142,17 +143,17 @@ pub record Waits (ts : List Tree) (w : Wait) (s : Script) : Type 0 where
   pub awaits : Awaits ts w.frame then
 
 -- what is to be built
-pub record Builds (ts : List Tree) (v : ℕ) (low high : Diagram) (s : Script) : Type 0 where
+pub record Builds (ts : List Tree) (k : Node) (s : Script) : Type 0 where
   pub low_tree : Tree
   pub high_tree : Tree
-  pub is : s ≡ builds v low_tree high_tree
-  pub low_is : Denotes ts low low_tree
-  pub high_is : Denotes ts high high_tree
+  pub is : s ≡ builds k.member low_tree high_tree
+  pub low_is : Denotes ts k.low low_tree
+  pub high_is : Denotes ts k.high high_tree
 
 -- what comes next is the next of the script
 abbrev pub Continues : List Tree → Next → Script → Type 0
 Continues ts (Waiting w) s = Waits ts w s
-Continues ts (Done v l h) s = Builds ts v l h s
+Continues ts (Done k) s = Builds ts k s
 
 -- the parts of two operands at the smaller of their top members
 pub record Halved (ts : List Tree) (r : Halves) (s t : Tree) : Type 0 where
@@ -165,4 +166,4 @@ pub record Halved (ts : List Tree) (r : Halves) (s t : Tree) : Type 0 where
 -- what comes next waits for fewer than n further answers
 abbrev pub Fewer : Next → ℕ → Type 0
 Fewer (Waiting w) n = ahead w.frame < n
-Fewer (Done v l h) n = Unit {0}
+Fewer (Done k) n = Unit {0}

@@ -12,6 +12,7 @@ ghost use Rattle.diagrams.specs.Memory.{trees};
 use self::begins::{begin_both, begin_either, begin_less, begin_off, begin_on, begin_turn};
 use self::resumes::{resume_both, resume_less, resume_turn};
 use self::sights::{sight_both, sight_either, sight_less, sight_off, sight_on, sight_turn};
+use crate::node::Node;
 use crate::nodes::NodeMemory;
 use memos::diagram::Diagram;
 use memos::question::Question;
@@ -126,8 +127,8 @@ pub struct Wait {
 #[derive(Clone, Copy)]
 pub enum Next {
     Wait(Wait),
-    // its answer is to be built: member, low, high
-    Done(u8, Diagram, Diagram),
+    // its answer is to be built over this node
+    Done(Node),
 }
 
 // The answer to a question at sight, or none where it has to be opened.
@@ -193,6 +194,10 @@ pub(crate) fn resume(frame: Frame, answer: Diagram) -> Next
             frame: Frame::High { member, low },
             question: Question::Less(answer, low),
         }),
-        Frame::High { member, low } => Next::Done(member, low, answer),
+        Frame::High { member, low } => Next::Done(Node {
+            member,
+            low,
+            high: answer,
+        }),
     }
 }

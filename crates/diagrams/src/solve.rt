@@ -112,8 +112,8 @@ fn take<M: Memo>(
             });
             Ok(Step::Ask(wait.question))
         }
-        Next::Done(member, low, high) => {
-            let built = nodes.build(member, low, high)?;
+        Next::Done(node) => {
+            let built = nodes.build(node)?;
             memo.note(question, built);
             Ok(Step::Answer(built))
         }

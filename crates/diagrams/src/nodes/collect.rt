@@ -90,7 +90,11 @@ impl<'a> NodeMemory<'a> {
             let node = nodes[place as usize];
             let low = moved(moves, node.low);
             let high = moved(moves, node.high);
-            match self.build(node.member, low, high) {
+            match self.build(Node {
+                member: node.member,
+                low,
+                high,
+            }) {
                 Ok(diagram) => moves[place as usize] = diagram,
                 Err(_) => return,
             }

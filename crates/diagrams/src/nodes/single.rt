@@ -4,6 +4,7 @@ ghost use Rattle.diagrams.specs.Building.{Makes, single_made, single_tree};
 ghost use Rattle.diagrams.specs.Memory.{places, trees};
 
 use super::NodeMemory;
+use crate::node::Node;
 use interning::interner::Full;
 use memos::diagram::Diagram;
 
@@ -17,6 +18,10 @@ impl<'a> NodeMemory<'a> {
         if member < 1 || member > 48 {
             return Ok(Diagram::none());
         }
-        self.build(member, Diagram::none(), Diagram::always())
+        self.build(Node {
+            member,
+            low: Diagram::none(),
+            high: Diagram::always(),
+        })
     }
 }

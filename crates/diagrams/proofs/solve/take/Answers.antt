@@ -24,7 +24,7 @@ build-requires g c =
     let T = told (g.M.Memo.keeps c.args.memo.now) ts (g.M.Memo.notes c.args.memo.now) in
     let due = c.requires.due in
     let b = c.in-Done.ensures.continues ts due.pends.then (answer due.next) due.pends.awaits due.arrives.settled.denotes in
-    record { fitting = take_fitting ts T (stacked c.args.stack.now) c.args.newest c.args.answer due c.in-Done.member c.in-Done.low c.in-Done.high b }
+    record { fitting = take_fitting ts T (stacked c.args.stack.now) c.args.newest c.args.answer due c.in-Done.node b }
 
 pub returns-in_err-built-in-Done : goal.returns-in_err-built-in-Done
 returns-in_err-built-in-Done g c =
@@ -37,7 +37,7 @@ returns-in_err-built-in-Done g c =
     let due = c.requires.due in
     let b = c.in-Done.ensures.continues ts due.pends.then (answer due.next) due.pends.awaits due.arrives.settled.denotes in
     let joined = c.in_err-built-in-Done.ensures in
-    let lacks = take_lacks ts (told K ts ns) xs x c.args.answer due c.in-Done.member c.in-Done.low c.in-Done.high b (places c.args.nodes.now) ts' (joined.joins b.low_tree b.high_tree b.low_is b.high_is) in
+    let lacks = take_lacks ts (told K ts ns) xs x c.args.answer due c.in-Done.node b (places c.args.nodes.now) ts' (joined.joins b.low_tree b.high_tree b.low_is b.high_is) in
     record {
       notes = subst (λ us. AllRight us ns) (sym lacks.same) c.requires.notes;
       grows = grows_none ts ts' (ask_at ts x.question) lacks.same;
@@ -83,21 +83,19 @@ returns-in_ok-built-in-Done g c =
     let xs = stacked c.args.stack.now in
     let x = c.args.newest in
     let due = c.requires.due in
-    let v = c.in-Done.member in
-    let low = c.in-Done.low in
-    let high = c.in-Done.high in
+    let k = c.in-Done.node in
     let b = c.in-Done.ensures.continues ts due.pends.then (answer due.next) due.pends.awaits due.arrives.settled.denotes in
     let joined = c.in_ok-built-in-Done.ensures in
     let d = c.in_ok-built-in-Done.built in
     let j = joined.joins b.low_tree b.high_tree b.low_is b.high_is in
     let noted = c.note.ensures.noted in
     record {
-      notes = ends_notes K K' ts ns xs x c.args.answer due v low high b ts' d j ns' c.requires.notes noted;
-      grows = take_grows ts (told K ts ns) xs x c.args.answer due v low high b ts' d j;
-      counts = ends_counts K K' ts ns xs x c.args.answer due v low high b ts' d j ns' c.requires.notes noted;
+      notes = ends_notes K K' ts ns xs x c.args.answer due k b ts' d j ns' c.requires.notes noted;
+      grows = take_grows ts (told K ts ns) xs x c.args.answer due k b ts' d j;
+      counts = ends_counts K K' ts ns xs x c.args.answer due k b ts' d j ns' c.requires.notes noted;
       already = noted.already;
-      closed = ends_closed K K' ts ns xs x c.args.answer due v low high b ts' d j ns' c.requires.notes noted c.requires.closed;
-      takes = ends_steps K K' ts ns xs x c.args.answer due v low high b ts' d j ns' c.requires.notes noted;
+      closed = ends_closed K K' ts ns xs x c.args.answer due k b ts' d j ns' c.requires.notes noted c.requires.closed;
+      takes = ends_steps K K' ts ns xs x c.args.answer due k b ts' d j ns' c.requires.notes noted;
       places = joined.places;
       named = joined.named;
     }

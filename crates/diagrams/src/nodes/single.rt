@@ -15,7 +15,7 @@ impl<'a> NodeMemory<'a> {
         ensures places { places self.new ≡ places self.old }
         ensures named { self.new.interner.slots.ghost_name ≡ self.old.interner.slots.ghost_name }
     {
-        if member < 1 || member > 48 {
+        if !(1..=48).contains(&member) {
             return Ok(Diagram::none());
         }
         self.build(Node {

@@ -12,7 +12,7 @@ ghost use Rattle.diagrams.specs.Stacks.{stacked};
 use crate::frames;
 use crate::frames::{Frame, Next};
 use crate::nodes::NodeMemory;
-use crate::stack::Stack;
+use arrayvec::ArrayVec;
 use interning::interner::Full;
 use memos::diagram::Diagram;
 use memos::memo::Memo;
@@ -32,6 +32,19 @@ pub(crate) struct Pending {
     pub(crate) frame: Frame,
 }
 
+// What fills the idle places of the stack.
+impl Default for Pending {
+    fn default() -> Pending {
+        Pending {
+            question: Question::Turn(Diagram::none()),
+            frame: Frame::High {
+                member: 0,
+                low: Diagram::none(),
+            },
+        }
+    }
+}
+
 // What is done next: a question is asked, or an answer is taken to the newest open question.
 #[derive(Clone, Copy)]
 enum Step {
@@ -39,24 +52,11 @@ enum Step {
     Answer(Diagram),
 }
 
-// No open question; the places are idle.
-fn no_open(question: Question) -> Stack<Pending>
-    ensures { stacked result ≡ [] }
-{
-    Stack::empty(Pending {
-        question,
-        frame: Frame::High {
-            member: 0,
-            low: Diagram::none(),
-        },
-    })
-}
-
 // Asks a question: it is answered at sight or by a note, or else it is opened.
 fn put<M: Memo>(
     nodes: &NodeMemory<'_>,
     memo: &mut M,
-    stack: &mut Stack<Pending>,
+    stack: &mut ArrayVec<Pending, 48>,
     opened: &mut u64,
     question: Question,
 ) -> Step
@@ -87,7 +87,7 @@ fn put<M: Memo>(
 fn take<M: Memo>(
     nodes: &mut NodeMemory<'_>,
     memo: &mut M,
-    stack: &mut Stack<Pending>,
+    stack: &mut ArrayVec<Pending, 48>,
     newest: Pending,
     answer: Diagram,
 ) -> Result<Step, Full>
@@ -134,7 +134,7 @@ pub fn solve<M: Memo>(nodes: &mut NodeMemory<'_>, memo: &mut M, question: Questi
     ensures places { places nodes.new ≡ places nodes.old }
     ensures named { nodes.new.interner.slots.ghost_name ≡ nodes.old.interner.slots.ghost_name }
 {
-    let mut stack = no_open(question);
+    let mut stack = ArrayVec::<Pending, 48>::new();
     let mut opened = 0;
     let mut step = Step::Ask(question);
     loop {

@@ -6,7 +6,7 @@ ghost use Rattle.diagrams.specs.Stacks.{stacked};
 ghost use Rattle.diagrams.specs.Walking.{BranchFits, Comes};
 
 use super::NodeMemory;
-use crate::stack::Stack;
+use arrayvec::ArrayVec;
 use families::masks::bit;
 use memos::diagram::{Diagram, View};
 
@@ -15,6 +15,16 @@ use memos::diagram::{Diagram, View};
 pub(super) struct Branch {
     pub(super) diagram: Diagram,
     pub(super) gathered: u64,
+}
+
+// The whole of no diagram.
+impl Default for Branch {
+    fn default() -> Branch {
+        Branch {
+            diagram: Diagram::none(),
+            gathered: 0,
+        }
+    }
 }
 
 // What a branch comes to: no group, the one that is gathered, or the high side of a node.
@@ -27,7 +37,7 @@ pub(super) enum Found {
 
 impl<'a> NodeMemory<'a> {
     // Looks at a branch. The low side of a node is put off.
-    pub(super) fn fork(&self, branch: Branch, later: &mut Stack<Branch>) -> Found
+    pub(super) fn fork(&self, branch: Branch, later: &mut ArrayVec<Branch, 48>) -> Found
         requires { BranchFits (trees self.now) (length (stacked later.old)) branch }
         ensures { Comes (trees self.now) branch (stacked later.old) (stacked later.new) result }
     {

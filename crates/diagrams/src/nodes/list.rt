@@ -8,7 +8,7 @@ ghost use Rattle.diagrams.specs.Memory.{trees};
 
 use super::NodeMemory;
 use super::branch::{Branch, Found};
-use crate::stack::Stack;
+use arrayvec::ArrayVec;
 use families::masks::bit;
 use memos::diagram::{Diagram, View};
 
@@ -52,12 +52,11 @@ impl<'a> NodeMemory<'a> {
     {
         let room = buffer.len() / 8;
         let mut count = 0;
-        let root = Branch {
+        let mut later = ArrayVec::<Branch, 48>::new();
+        later.push(Branch {
             diagram,
             gathered: 0,
-        };
-        let mut later = Stack::empty(root);
-        later.push(root);
+        });
         'page: while let Some(first) = later.pop() {
             let mut branch = first;
             'descent: while branch.gathered < limit {

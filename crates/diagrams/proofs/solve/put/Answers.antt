@@ -1,4 +1,4 @@
-use Rattle.std.proofs.Common.{◌≡◌, length, refl, lit≤}
+use Rattle.std.proofs.Common.{◌≡◌, length, refl, arith}
 use Rattle.families.specs.Questions.{sight, opens}
 use Rattle.families.proofs.Solving.{good_ask_member}
 use Rattle.diagrams.specs.declared.solve.Pending.{Pending}
@@ -8,6 +8,7 @@ use Rattle.diagrams.specs.Solving.{told}
 use Rattle.diagrams.specs.Stacks.{stacked}
 use Rattle.diagrams.proofs.Recalling.{opened_counts, recalled_arrives, recalled_counts, recalled_more}
 use Rattle.diagrams.proofs.Scripted.{seen_none, sight_arrives}
+use Rattle.diagrams.proofs.StackLists.{stacked_length, stacked_more}
 use Rattle.diagrams.proofs.Stepping.{put_answers, put_deep, put_opens}
 use Rattle.diagrams.proofs.solve.put.Goals as goal
 
@@ -49,7 +50,7 @@ push-requires g c =
     let ts = trees c.args.nodes.now in
     let a = c.requires.puttable in
     let unseen : sight a.this ≡ opens = seen_none ts (sight a.this) (c.in_default.ensures a.this a.asks) in
-    (lit≤ tt, (put_deep ts c.args.question (length (stacked c.args.stack.now)) a unseen).1)
+    omega (arith, (put_deep ts c.args.question (length (stacked c.args.stack.now)) a unseen).1, stacked_length c.args.stack.now)
 
 pub returns : goal.returns
 returns g c =
@@ -68,7 +69,7 @@ returns g c =
     let x : Pending = record { question = q; frame = c.begin-wait.result.frame } in
     record {
       notes = missed.notes;
-      counts = opened_counts K K' m ns ns' q x xs ys a unseen missed c.args.opened.now c.saturating_add.result c.saturating_add.ensures refl c.push.ensures;
+      counts = opened_counts K K' m ns ns' q x xs ys a unseen missed c.args.opened.now c.saturating_add.result c.saturating_add.ensures refl (stacked_more c.args.stack.now c.push.new.self x c.push.ensures.items);
       already = missed.already;
-      steps = put_opens (trees m) (told K (trees m) ns) (told K' (trees m) ns') (recalled_more K K' m ns ns' q _ missed) q xs ys a unseen c.begin-wait.result begun.few (begun.waits a.this a.asks unseen) c.push.ensures;
+      steps = put_opens (trees m) (told K (trees m) ns) (told K' (trees m) ns') (recalled_more K K' m ns ns' q _ missed) q xs ys a unseen c.begin-wait.result begun.few (begun.waits a.this a.asks unseen) (stacked_more c.args.stack.now c.push.new.self x c.push.ensures.items);
     }

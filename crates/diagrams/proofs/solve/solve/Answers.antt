@@ -1,4 +1,4 @@
-use Rattle.std.proofs.Common.{ℕ, ◌<◌, ◌≤◌, List, length, sym, refl, ◌∙◌, subst}
+use Rattle.std.proofs.Common.{ℕ, ◌<◌, ◌≤◌, List, length, reverse, sym, refl, ap, ◌∙◌, subst}
 use Rattle.interning.proofs.Members.{apart_once}
 use Rattle.memos.specs.declared.diagram.Diagram.{Diagram}
 use Rattle.families.specs.Trees.{Tree}
@@ -8,6 +8,7 @@ use Rattle.diagrams.specs.Memory.{places, trees}
 use Rattle.diagrams.specs.Solving.{AllRight, Grows, Settled, Tallied, load, needed}
 use Rattle.diagrams.specs.Stacks.{stacked}
 use Rattle.diagrams.proofs.Memories.{memory_apart, memory_fits}
+use Rattle.diagrams.proofs.StackLists.{stacked_more, stacked_none}
 use Rattle.diagrams.proofs.Stepping.{asks_once}
 use Rattle.diagrams.proofs.Working.{works_start, works_closed, works_puttable, works_put, works_ended, works_enough, works_tallied, works_due, works_taken, works_grown, works_falls, works_short}
 use Rattle.diagrams.proofs.solve.solve.Goals as goal
@@ -18,7 +19,7 @@ Affords cap ts ts' d q = Settled ts' d q × (needed ts q ≤ cap)
 
 pub loop-step-init : goal.loop-step-init
 loop-step-init g c = (
-  works_start (g.M.Memo.keeps c.args.memo.now) (trees c.args.nodes.now) (g.M.Memo.notes c.args.memo.now) c.args.question (stacked c.no_open-stack.result) c.no_open-stack.ensures c.requires.asks c.requires.closed,
+  works_start (g.M.Memo.keeps c.args.memo.now) (trees c.args.nodes.now) (g.M.Memo.notes c.args.memo.now) c.args.question (stacked c.new-stack.result) (ap reverse c.new-stack.ensures) c.requires.asks c.requires.closed,
   c.requires.notes,
   (λ k. k),
   refl,
@@ -58,11 +59,11 @@ returns-in-None g c =
     let ns = g.M.Memo.notes c.args.memo.now in
     let ns' = g.M.Memo.notes c.loop-step.memo in
     let w = i.0 in
-    let arrives = works_ended _ ts ns ts' _ _ _ _ _ w c.in-Answer.answer c.in-Answer.is c.in-None.ensures in
-    let tallied = works_tallied _ ts ns ts' _ _ _ _ _ w c.in-Answer.answer c.in-Answer.is c.in-None.ensures in
+    let arrives = works_ended _ ts ns ts' _ _ _ _ _ w c.in-Answer.answer c.in-Answer.is (stacked_none c.loop-step.stack c.in-None.ensures.variant.1) in
+    let tallied = works_tallied _ ts ns ts' _ _ _ _ _ w c.in-Answer.answer c.in-Answer.is (stacked_none c.loop-step.stack c.in-None.ensures.variant.1) in
     let m = c.loop-step.nodes in
     let cap = places c.args.nodes.now in
-    let enough = works_enough _ ts ns ts' _ _ _ _ _ w c.in-Answer.answer c.in-Answer.is c.in-None.ensures cap (apart_once ts' (memory_apart m)) (subst (λ n. length ts' ≤ n) i.3 (memory_fits m)) in
+    let enough = works_enough _ ts ns ts' _ _ _ _ _ w c.in-Answer.answer c.in-Answer.is (stacked_none c.loop-step.stack c.in-None.ensures.variant.1) cap (apart_once ts' (memory_apart m)) (subst (λ n. length ts' ≤ n) i.3 (memory_fits m)) in
     record {
       answer = λ q a. subst (Affords cap ts ts' c.in-Answer.answer) (asks_once ts c.args.question w.final q w.starts a) (arrives.settled, enough);
       opened = λ k q a. subst (λ (p : Asked). Tallied ts ns ts' ns' (outcome p).asked c.loop-step.opened) (asks_once ts c.args.question w.final q w.starts a) (tallied k);
@@ -80,20 +81,20 @@ take-requires g c =
     record {
       notes = i.1;
       closed = works_closed _ _ _ _ _ _ _ _ _ i.0;
-      due = works_due _ _ _ _ _ _ _ _ _ i.0 c.in-Answer.answer c.in-Answer.is c.in-Some.newest _ c.in-Some.ensures;
+      due = works_due _ _ _ _ _ _ _ _ _ i.0 c.in-Answer.answer c.in-Answer.is c.in-Some.newest _ (stacked_more c.pop.new.self c.loop-step.stack c.in-Some.newest c.in-Some.ensures.items);
     }
 
 pub loop-step-smaller : goal.loop-step-smaller
 loop-step-smaller g c =
     let i = c.loop-step.invariant in
-    works_falls _ _ _ _ _ _ _ _ _ i.0 c.in-Answer.answer c.in-Answer.is c.in-Some.newest _ c.in-Some.ensures _ c.in-Ok.ensures.takes.fewer
+    works_falls _ _ _ _ _ _ _ _ _ i.0 c.in-Answer.answer c.in-Answer.is c.in-Some.newest _ (stacked_more c.pop.new.self c.loop-step.stack c.in-Some.newest c.in-Some.ensures.items) _ c.in-Ok.ensures.takes.fewer
 
 pub loop-step-preserved : goal.loop-step-preserved
 loop-step-preserved g c =
     let i = c.loop-step.invariant in
     let taken = c.in-Ok.ensures in
     let memo = c.take.new.memo in (
-      works_taken _ _ _ _ _ _ _ _ _ i.0 c.in-Answer.answer c.in-Answer.is c.in-Some.newest _ c.in-Some.ensures (g.M.Memo.keeps memo) (trees c.take.new.nodes) (g.M.Memo.notes memo) (stacked c.take.new.stack) _ c.in-Ok.next taken.already (taken.counts c.loop-step.opened) taken.grows taken.takes,
+      works_taken _ _ _ _ _ _ _ _ _ i.0 c.in-Answer.answer c.in-Answer.is c.in-Some.newest _ (stacked_more c.pop.new.self c.loop-step.stack c.in-Some.newest c.in-Some.ensures.items) (g.M.Memo.keeps memo) (trees c.take.new.nodes) (g.M.Memo.notes memo) (stacked c.take.new.stack) _ c.in-Ok.next taken.already (taken.counts c.loop-step.opened) taken.grows taken.takes,
       taken.notes,
       (λ k. i.2 (taken.already k)),
       taken.places ∙ i.3,
@@ -109,9 +110,9 @@ returns-in-Err g c =
     let w = i.0 in
     let taken = c.in-Err.ensures in
     let x = c.in-Some.newest in
-    let grown = works_grown _ ts _ ts' _ _ _ _ _ w c.in-Answer.answer c.in-Answer.is x _ c.in-Some.ensures ts'' taken.grows in
+    let grown = works_grown _ ts _ ts' _ _ _ _ _ w c.in-Answer.answer c.in-Answer.is x _ (stacked_more c.pop.new.self c.loop-step.stack c.in-Some.newest c.in-Some.ensures.items) ts'' taken.grows in
     let once = apart_once ts' (memory_apart c.loop-step.nodes) in
-    let short = works_short _ ts _ ts' _ _ _ _ _ w c.in-Answer.answer c.in-Answer.is x _ c.in-Some.ensures (places c.loop-step.nodes) ts'' once taken.takes in
+    let short = works_short _ ts _ ts' _ _ _ _ _ w c.in-Answer.answer c.in-Answer.is x _ (stacked_more c.pop.new.self c.loop-step.stack c.in-Some.newest c.in-Some.ensures.items) (places c.loop-step.nodes) ts'' once taken.takes in
     let fewer = subst (λ n. n < needed ts w.final) i.3 short in
     record {
       answer = λ q a. subst (λ (p : Asked). places c.args.nodes.now < needed ts p) (asks_once ts c.args.question w.final q w.starts a) fewer;

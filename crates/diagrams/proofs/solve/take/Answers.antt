@@ -1,4 +1,4 @@
-use Rattle.std.proofs.Common.{sym, refl, subst, lit≤}
+use Rattle.std.proofs.Common.{sym, refl, subst, arith}
 use Rattle.std.proofs.lemmas.Result.{MatchResult-from_err}
 use Rattle.families.specs.Outcomes.{answer}
 use Rattle.diagrams.specs.declared.solve.Pending.{Pending}
@@ -7,6 +7,7 @@ use Rattle.diagrams.specs.Memory.{places, trees}
 use Rattle.diagrams.specs.Solving.{AllRight, Closed, Tally, told}
 use Rattle.diagrams.specs.Stacks.{stacked}
 use Rattle.diagrams.proofs.Ending.{ends_closed, ends_counts, ends_notes, ends_steps}
+use Rattle.diagrams.proofs.StackLists.{stacked_length, stacked_more}
 use Rattle.diagrams.proofs.Stepping.{grows_none}
 use Rattle.diagrams.proofs.Taking.{take_deep, take_fitting, take_grows, take_lacks, take_waits, takes_err}
 use Rattle.diagrams.proofs.Tallying.{tally_waits}
@@ -16,7 +17,7 @@ pub push-requires : goal.push-requires
 push-requires g c =
     let ts = trees c.args.nodes.now in
     let T = told (g.M.Memo.keeps c.args.memo.now) ts (g.M.Memo.notes c.args.memo.now) in
-    (lit≤ tt, take_deep ts T (stacked c.args.stack.now) c.args.newest c.args.answer c.requires.due)
+    omega (arith, take_deep ts T (stacked c.args.stack.now) c.args.newest c.args.answer c.requires.due, stacked_length c.args.stack.now)
 
 pub build-requires : goal.build-requires
 build-requires g c =
@@ -64,10 +65,10 @@ returns-in-Wait g c =
     record {
       notes = c.requires.notes;
       grows = grows_none ts ts (ask_at ts x.question) refl;
-      counts = λ n k us ms final chain t. subst (λ zs. Tally us ms ts ns final zs n) (sym c.push.ensures) (tally_waits us ms ts ns final x y xs n refl t);
+      counts = λ n k us ms final chain t. subst (λ zs. Tally us ms ts ns final zs n) (sym (stacked_more c.args.stack.now c.push.new.self y c.push.ensures.items)) (tally_waits us ms ts ns final x y xs n refl t);
       already = λ k. k;
       closed = c.requires.closed;
-      takes = take_waits ts (told K ts ns) xs x c.args.answer due c.in-Wait.wait ys waits resumed.fewer c.push.ensures;
+      takes = take_waits ts (told K ts ns) xs x c.args.answer due c.in-Wait.wait ys waits resumed.fewer (stacked_more c.args.stack.now c.push.new.self y c.push.ensures.items);
       places = refl;
       named = refl;
     }

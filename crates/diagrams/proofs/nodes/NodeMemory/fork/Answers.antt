@@ -1,8 +1,9 @@
-use Rattle.std.proofs.Common.{sym, refl, subst, arith, lit<}
+use Rattle.std.proofs.Common.{sym, refl, subst, arith}
 use Rattle.diagrams.specs.Memory.{trees}
 use Rattle.diagrams.specs.Stacks.{stacked}
 use Rattle.diagrams.specs.Walking.{Forked}
 use Rattle.diagrams.proofs.Firsts.{bit_some, bit_weight, member_held}
+use Rattle.diagrams.proofs.StackLists.{stacked_length, stacked_more}
 use Rattle.diagrams.proofs.Walks.{fork_deep, fork_small, forked, past_nothing}
 use Rattle.diagrams.proofs.nodes.NodeMemory.fork.Goals as goal
 
@@ -19,7 +20,7 @@ push-requires c =
     let p = c.in-Node.place in
     let is = c.in-Node.ensures in
     let w = bit_weight c.bit.result c.from.result k.member c.in-Some.weight c.in-Some.is c.bit.ensures c.from.ensures (member_held m c.args.branch.diagram p k is c.key-node.ensures) in
-    (lit< tt, fork_deep m c.args.branch p k is c.key-node.ensures c.in-Some.weight w (stacked c.args.later.now) c.requires)
+    omega (arith, fork_deep m c.args.branch p k is c.key-node.ensures c.in-Some.weight w (stacked c.args.later.now) c.requires, stacked_length c.args.later.now)
 
 pub overflow_add-result : goal.overflow_add-result
 overflow_add-result c =
@@ -37,4 +38,4 @@ returns-in-Some c =
     let p = c.in-Node.place in
     let is = c.in-Node.ensures in
     let w = bit_weight c.bit.result c.from.result k.member c.in-Some.weight c.in-Some.is c.bit.ensures c.from.ensures (member_held m c.args.branch.diagram p k is c.key-node.ensures) in
-    subst (Forked (trees m) c.args.branch (stacked c.args.later.now) _) (sym c.push.ensures) (forked m c.args.branch p k is c.key-node.ensures c.in-Some.weight w (stacked c.args.later.now) c.requires)
+    subst (Forked (trees m) c.args.branch (stacked c.args.later.now) _) (sym (stacked_more c.args.later.now c.push.new.self _ c.push.ensures.items)) (forked m c.args.branch p k is c.key-node.ensures c.in-Some.weight w (stacked c.args.later.now) c.requires)

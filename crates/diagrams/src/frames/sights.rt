@@ -1,8 +1,5 @@
-//! What is seen of a question of each kind. The tests are those of the definition, in its order.
-ghost use Rattle.std.specs.Prelude.{◌≡◌, List, Decides};
-ghost use Rattle.interning.specs.Places.{Each};
-ghost use Rattle.families.specs.Good.{Proper};
-ghost use Rattle.families.specs.Trees.{Tree, none, always};
+//! What is seen of a question of each kind, by what its operands are.
+ghost use Rattle.families.specs.Trees.{Tree};
 ghost use Rattle.families.specs.Questions.{sight as seeing, either, both, less, turn, off, on};
 ghost use Rattle.diagrams.specs.Asking.{Seen};
 ghost use Rattle.diagrams.specs.Building.{Denotes};
@@ -11,103 +8,56 @@ ghost use Rattle.diagrams.specs.Memory.{trees};
 use crate::nodes::NodeMemory;
 use memos::diagram::{Diagram, View};
 
-// Whether nothing passes.
-fn is_none(diagram: Diagram) -> bool
-    ensures { (ts : List Tree) (t : Tree) → Each Proper ts → Denotes ts diagram t → Decides result (t ≡ none) }
-{
-    match diagram.view() {
-        View::None => true,
-        _ => false,
-    }
-}
-
-// Whether everything passes.
-fn is_always(diagram: Diagram) -> bool
-    ensures { (ts : List Tree) (t : Tree) → Each Proper ts → Denotes ts diagram t → Decides result (t ≡ always) }
-{
-    match diagram.view() {
-        View::Always => true,
-        _ => false,
-    }
-}
-
 // What passes one of two.
+#[tactic(auto, using(crate::proofs::Sighted::sees))]
 pub(super) fn sight_either(nodes: &NodeMemory<'_>, f: Diagram, g: Diagram) -> Option<Diagram>
     ensures { (s t : Tree) → Denotes (trees nodes.now) f s → Denotes (trees nodes.now) g t → Seen (trees nodes.now) result (seeing (either s t)) }
 {
-    if is_none(f) {
-        return Some(g);
+    match (f.view(), g.view()) {
+        (View::None, _) | (_, View::Always) => Some(g),
+        (_, View::None) | (View::Always, _) => Some(f),
+        _ if nodes.same(f, g) => Some(f),
+        _ => None,
     }
-    if is_none(g) {
-        return Some(f);
-    }
-    if is_always(f) {
-        return Some(f);
-    }
-    if is_always(g) {
-        return Some(g);
-    }
-    if nodes.same(f, g) {
-        return Some(f);
-    }
-    None
 }
 
 // What passes both of two.
+#[tactic(auto, using(crate::proofs::Sighted::sees))]
 pub(super) fn sight_both(nodes: &NodeMemory<'_>, f: Diagram, g: Diagram) -> Option<Diagram>
     ensures { (s t : Tree) → Denotes (trees nodes.now) f s → Denotes (trees nodes.now) g t → Seen (trees nodes.now) result (seeing (both s t)) }
 {
-    if is_none(f) {
-        return Some(f);
+    match (f.view(), g.view()) {
+        (View::None, _) | (_, View::Always) => Some(f),
+        (_, View::None) | (View::Always, _) => Some(g),
+        _ if nodes.same(f, g) => Some(f),
+        _ => None,
     }
-    if is_none(g) {
-        return Some(g);
-    }
-    if is_always(f) {
-        return Some(g);
-    }
-    if is_always(g) {
-        return Some(f);
-    }
-    if nodes.same(f, g) {
-        return Some(f);
-    }
-    None
 }
 
 // The groups of the first that contain none of the second.
+#[tactic(auto, using(crate::proofs::Sighted::sees))]
 pub(super) fn sight_less(nodes: &NodeMemory<'_>, f: Diagram, g: Diagram) -> Option<Diagram>
     ensures { (s t : Tree) → Denotes (trees nodes.now) f s → Denotes (trees nodes.now) g t → Seen (trees nodes.now) result (seeing (less s t)) }
 {
-    if is_none(f) {
-        return Some(f);
+    match (f.view(), g.view()) {
+        (View::None, _) | (_, View::None) => Some(f),
+        (_, View::Always) => Some(Diagram::none()),
+        (View::Always, _) => Some(f),
+        _ if nodes.same(f, g) => Some(Diagram::none()),
+        _ => None,
     }
-    if is_none(g) {
-        return Some(f);
-    }
-    if is_always(g) {
-        return Some(Diagram::none());
-    }
-    if is_always(f) {
-        return Some(f);
-    }
-    if nodes.same(f, g) {
-        return Some(Diagram::none());
-    }
-    None
 }
 
 // The smallest groups that meet every group.
+#[tactic(auto, using(crate::proofs::Sighted::sees))]
 pub(super) fn sight_turn(nodes: &NodeMemory<'_>, f: Diagram) -> Option<Diagram>
     ensures { (t : Tree) → Denotes (trees nodes.now) f t → Seen (trees nodes.now) result (seeing (turn t)) }
 {
-    if is_none(f) {
-        return Some(Diagram::always());
+    match f.view() {
+        View::None => Some(Diagram::always()),
+        View::Always => Some(Diagram::none()),
+        View::Node(_) => None,
     }
-    if is_always(f) {
-        return Some(Diagram::none());
-    }
-    None
 }
 
 // The groups without a member.

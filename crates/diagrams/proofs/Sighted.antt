@@ -1,11 +1,11 @@
 -- What is seen of a question, test by test.
 use Rattle.std.proofs.Common.{◌≡◌, ℕ, ◌<◌, ◌≤◌, Bool, true, false, ◌||◌, List, length, Some, None, Decides, sym, refl, ap, ◌∙◌, subst, ⊎_elim, arith}
-use Rattle.std.proofs.lemmas.Bool.{cases_Bool, lt-ltb, le-ltb, eq-eqb, ne_eqb, false≢true, true≢false}
+use Rattle.std.proofs.lemmas.Bool.{cases_Bool, cases_order, lt-ltb, le-ltb, eq-eqb, ne_eqb, false≢true, true≢false}
 use Rattle.memos.specs.declared.diagram.Diagram.{Diagram}
 use Rattle.memos.specs.declared.diagram.View.TheVariants.{None as Never, Always, Node as Place}
 use Rattle.memos.specs.Diagrams.{seen as named}
 use Rattle.families.specs.Trees.{Tree, none, always, node, is_none, is_always, equal}
-use Rattle.families.specs.Questions.{Sight, either, both, less, turn, off, on, seen, opens, sight}
+use Rattle.families.specs.Questions.{Sight, either, both, less, turn, off, on, low_at, high_at, seen, opens, sight}
 use Rattle.families.proofs.Sights.{equal_is, equal_self}
 use Rattle.diagrams.specs.NodeKeys.{Below, tree_of, tree_at}
 use Rattle.diagrams.specs.Building.{Denotes}
@@ -171,42 +171,29 @@ turn_opens none p = absurd (true≢false p)
 turn_opens always p = absurd (true≢false p)
 turn_opens (node v a b) p = refl
 
-pub off_end : (t : Tree) (u : ℕ) → (is_none t || is_always t) ≡ true → sight (off t u) ≡ seen t
+-- what is seen of a question on a member, u: the parts at it
+pub parts_end : (t : Tree) (u : ℕ) → (is_none t || is_always t) ≡ true → (sight (off t u) ≡ seen (low_at u t)) × (sight (on t u) ≡ seen (high_at u t))
 unfolding sight
-off_end none u e = refl
-off_end always u e = refl
-off_end (node v a b) u e = absurd (false≢true e)
+parts_end none u e = (refl, refl)
+parts_end always u e = (refl, refl)
+parts_end (node v a b) u e = absurd (false≢true e)
 
-pub on_end : (t : Tree) (u : ℕ) → (is_none t || is_always t) ≡ true → sight (on t u) ≡ seen none
-unfolding sight
-on_end none u e = refl
-on_end always u e = refl
-on_end (node v a b) u e = absurd (false≢true e)
-
--- the questions on a member, u, of a node with the top v
+-- of a node with the top v
 module _ {t a b : Tree} {v : ℕ} (u : ℕ) (is : t ≡ node v a b) where
-  pub off_before : u < v → sight (off t u) ≡ seen t
+  pub parts_seen : u ≤ v → (sight (off t u) ≡ seen (low_at u t)) × (sight (on t u) ≡ seen (high_at u t))
   unfolding sight
-  off_before h = let l = lt-ltb u v h in subst (λ z. sight (off z u) ≡ seen z) (sym is) (rw l)
+  parts_seen h =
+      subst (λ z. (sight (off z u) ≡ seen (low_at u z)) × (sight (on z u) ≡ seen (high_at u z))) (sym is)
+      (⊎_elim
+      (λ (e : u ≡ v). let l = le-ltb u v (omega arith) in let q = eq-eqb u v e in (rw (l, q), rw (l, q)))
+      (⊎_elim (λ (s : u < v). let l = lt-ltb u v s in let q = ne_eqb u v (omega arith) in (rw (l, q), rw (l, q))) (λ (s : v < u). absurd (omega arith)))
+      (cases_order u v))
 
-  pub off_here : u ≡ v → sight (off t u) ≡ seen a
+  pub parts_open : v < u → (sight (off t u) ≡ opens) × (sight (on t u) ≡ opens)
   unfolding sight
-  off_here e = let l = le-ltb u v (omega arith) in let q = eq-eqb u v e in subst (λ z. sight (off z u) ≡ seen a) (sym is) (rw (l, q))
-
-  pub off_opens : v ≤ u → (u ≡ v → ⊥) → sight (off t u) ≡ opens
-  unfolding sight
-  off_opens h n = let l = le-ltb u v h in let q = ne_eqb u v n in subst (λ z. sight (off z u) ≡ opens) (sym is) (rw (l, q))
-
-  pub on_before : u < v → sight (on t u) ≡ seen none
-  unfolding sight
-  on_before h = let l = lt-ltb u v h in subst (λ z. sight (on z u) ≡ seen none) (sym is) (rw l)
-
-  pub on_here : u ≡ v → sight (on t u) ≡ seen b
-  unfolding sight
-  on_here e = let l = le-ltb u v (omega arith) in let q = eq-eqb u v e in subst (λ z. sight (on z u) ≡ seen b) (sym is) (rw (l, q))
-
-  pub on_opens : v ≤ u → (u ≡ v → ⊥) → sight (on t u) ≡ opens
-  unfolding sight
-  on_opens h n = let l = le-ltb u v h in let q = ne_eqb u v n in subst (λ z. sight (on z u) ≡ opens) (sym is) (rw (l, q))
+  parts_open h =
+      let l = le-ltb u v (omega arith) in
+      let q = ne_eqb u v (omega arith) in
+      subst (λ z. (sight (off z u) ≡ opens) × (sight (on z u) ≡ opens)) (sym is) (rw (l, q), rw (l, q))
 
 pub ruleset sees = (fails, seen_by, seen_open, is_never, is_ever, is_nodal, none_denotes, always_denotes, none_either, either_none, always_either, either_always, either_same, either_opens, none_both, both_none, always_both, both_always, both_same, both_opens, none_less, less_none, less_always, always_less, less_same, less_opens, turn_none, turn_always, turn_opens)

@@ -7,6 +7,7 @@ ghost use Rattle.interning.specs.Places.{Each};
 ghost use Rattle.families.specs.Good.{Proper};
 ghost use Rattle.diagrams.specs.NodeKeys.{NamesBelow, node_mark, node_tree};
 
+pub use self::read::Parts;
 use crate::node::Node;
 use interning::interner::Interner;
 

@@ -1,11 +1,12 @@
 //! What is seen of a question of each kind, by what its operands are.
+ghost use Rattle.std.specs.Option.{option_map};
 ghost use Rattle.families.specs.Trees.{Tree};
 ghost use Rattle.families.specs.Questions.{sight as seeing, either, both, less, turn, off, on};
 ghost use Rattle.diagrams.specs.Asking.{Seen};
 ghost use Rattle.diagrams.specs.Building.{Denotes};
 ghost use Rattle.diagrams.specs.Memory.{trees};
 
-use crate::nodes::NodeMemory;
+use crate::nodes::{NodeMemory, Parts};
 use memos::diagram::{Diagram, View};
 
 // What passes one of two.
@@ -60,34 +61,13 @@ pub(super) fn sight_turn(nodes: &NodeMemory<'_>, f: Diagram) -> Option<Diagram>
     }
 }
 
-// The groups without a member.
-pub(super) fn sight_off(nodes: &NodeMemory<'_>, f: Diagram, away: u8) -> Option<Diagram>
-    ensures { (t : Tree) → Denotes (trees nodes.now) f t → Seen (trees nodes.now) result (seeing (off t away)) }
+// The low and the high part at a member, where they are seen: the groups without it, and those with it, it taken out.
+pub(super) fn sight_parts(nodes: &NodeMemory<'_>, f: Diagram, away: u8) -> Option<Parts>
+    ensures low { (t : Tree) → Denotes (trees nodes.now) f t → Seen (trees nodes.now) (option_map (λ p. p.low) result) (seeing (off t away)) }
+    ensures high { (t : Tree) → Denotes (trees nodes.now) f t → Seen (trees nodes.now) (option_map (λ p. p.high) result) (seeing (on t away)) }
 {
-    let Some(node) = nodes.node(f) else {
-        return Some(f);
-    };
-    if away < node.member {
-        return Some(f);
+    match nodes.node(f) {
+        Some(node) if node.member < away => None,
+        _ => Some(nodes.parts(f, away)),
     }
-    if away == node.member {
-        return Some(node.low);
-    }
-    None
-}
-
-// The groups with a member, it taken out.
-pub(super) fn sight_on(nodes: &NodeMemory<'_>, f: Diagram, away: u8) -> Option<Diagram>
-    ensures { (t : Tree) → Denotes (trees nodes.now) f t → Seen (trees nodes.now) result (seeing (on t away)) }
-{
-    let Some(node) = nodes.node(f) else {
-        return Some(Diagram::none());
-    };
-    if away < node.member {
-        return Some(Diagram::none());
-    }
-    if away == node.member {
-        return Some(node.high);
-    }
-    None
 }

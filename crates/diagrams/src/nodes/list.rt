@@ -9,7 +9,6 @@ ghost use Rattle.diagrams.specs.Memory.{trees};
 use super::NodeMemory;
 use super::branch::{Branch, Found};
 use arrayvec::ArrayVec;
-use families::masks::bit;
 use memos::diagram::{Diagram, View};
 
 // Writes a group from a place of the buffer on, the most significant byte first.
@@ -32,11 +31,7 @@ impl<'a> NodeMemory<'a> {
             View::None => None,
             View::Always => Some(0),
             View::Node(place) => {
-                if place >= self.len() {
-                    return None;
-                }
-                let node = self.key(place);
-                let weight = bit(u32::from(node.member))?;
+                let (node, weight) = self.weighed(place)?;
                 match self.first_below(node.high, limit.saturating_sub(weight)) {
                     Some(group) => Some(weight + group),
                     None => self.first_below(node.low, limit),
@@ -51,6 +46,7 @@ impl<'a> NodeMemory<'a> {
         ensures { (t : Tree) → Denotes (trees self.now) diagram t → Listed (page limit (length buffer.old / 8) (groups t)) buffer.old buffer.new result }
     {
         let room = buffer.len() / 8;
+        // counted by hand: with the cells of `chunks_exact_mut` no proof knows what they left in the buffer
         let mut count = 0;
         let mut later = ArrayVec::<Branch, 48>::new();
         later.push(Branch {

@@ -53,8 +53,7 @@ impl<'a> NodeMemory<'a> {
             diagram,
             gathered: 0,
         });
-        'page: while let Some(first) = later.pop() {
-            let mut branch = first;
+        'page: while let Some(mut branch) = later.pop() {
             'descent: while branch.gathered < limit {
                 match self.fork(branch, &mut later) {
                     Found::High(high) => branch = high,

@@ -1,6 +1,5 @@
 -- An answer is taken to the open question that waits for it.
-use Rattle.std.proofs.Common.{◌≡◌, ℕ, suc, ◌+◌, ◌-◌, ◌*◌, ◌<◌, true, List, ◌∷◌, length, is_err, Ok, Err, Result, sym, subst, ⊎_elim, arith}
-use Rattle.interning.specs.declared.interner.Full.{Full}
+use Rattle.std.proofs.Common.{◌≡◌, ℕ, suc, ◌+◌, ◌-◌, ◌*◌, ◌<◌, List, ◌∷◌, length, sym, subst, ⊎_elim, arith}
 use Rattle.interning.specs.Distinct.{◌∈◌}
 use Rattle.memos.specs.declared.diagram.Diagram.{Diagram}
 use Rattle.families.specs.Trees.{Tree, build}
@@ -9,22 +8,16 @@ use Rattle.families.specs.Scripts.{Script}
 use Rattle.families.specs.Outcomes.{made, outcome, answer}
 use Rattle.diagrams.specs.declared.frames.Wait.{Wait}
 use Rattle.diagrams.specs.declared.node.Node.{Node}
-use Rattle.diagrams.specs.declared.solve.Step.{Step}
 use Rattle.diagrams.specs.declared.solve.Step.TheVariants.{Ask as Asking, Answer as Answering}
 use Rattle.diagrams.specs.declared.solve.Pending.{Pending}
 use Rattle.diagrams.specs.Asking.{ask_at}
 use Rattle.diagrams.specs.Building.{Fitting, Lacks, Made}
 use Rattle.diagrams.specs.Frames.{Waits, Builds, ahead}
-use Rattle.diagrams.specs.Solving.{Right, Grows, Left, Due, Steps, Takes, span, weight}
+use Rattle.diagrams.specs.Solving.{Right, Grows, Left, Due, Steps, span, weight}
 use Rattle.diagrams.proofs.FramesKept.{asks_kept}
 use Rattle.diagrams.proofs.Scripted.{split_below, left_goes}
 use Rattle.diagrams.proofs.Measured.{ending_falls}
 use Rattle.diagrams.proofs.Stepping.{step_answers, step_waits, builds_fitting, built_settled, built_grows, built_lacks, built_tells}
-
--- there is no place for what is built
-pub takes_err : (cap : ℕ) (ts ts' : List Tree) (T T' : Ask → Type 0) (q : Ask) (xs ys : List Pending) (n : ℕ) (r : Result Step Full) → is_err r ≡ true → Lacks cap ts (outcome q).built ts' → Takes cap ts T ts' T' q xs ys n r
-takes_err cap ts ts' T T' q xs ys n (Ok step) e k = let z : ◌≡◌ {A = ℕ} 0 1 = cc in absurd (omega arith)
-takes_err cap ts ts' T T' q xs ys n (Err f) e k = k
 
 module _ (ts : List Tree) (T : Ask → Type 0) (xs : List Pending) (x : Pending) (d : Diagram) (due : Due ts T (length xs) x d) where
   -- what the open question still does with the answer

@@ -9,53 +9,55 @@ use Rattle.diagrams.specs.Stacks.{stacked}
 use Rattle.diagrams.proofs.Ending.{ends_closed, ends_counts, ends_notes, ends_steps}
 use Rattle.diagrams.proofs.StackLists.{stacked_length, stacked_more}
 use Rattle.diagrams.proofs.Stepping.{grows_none}
-use Rattle.diagrams.proofs.Taking.{take_deep, take_fitting, take_grows, take_lacks, take_waits, takes_err}
+use Rattle.diagrams.proofs.Taking.{take_deep, take_fitting, take_grows, take_lacks, take_waits}
 use Rattle.diagrams.proofs.Tallying.{tally_waits}
-use Rattle.diagrams.proofs.solve.take.Goals as goal
+use Rattle.diagrams.proofs.solve.Solver.take.Goals as goal
 
 pub push-requires : goal.push-requires
 push-requires g c =
-    let ts = trees c.args.nodes.now in
-    let T = told (g.M.Memo.keeps c.args.memo.now) ts (g.M.Memo.notes c.args.memo.now) in
-    omega (arith, take_deep ts T (stacked c.args.stack.now) c.args.newest c.args.answer c.requires.due, stacked_length c.args.stack.now)
+    let ts = trees c.args.self.now.nodes.now in
+    let T = told (g.M.Memo.keeps c.args.self.now.memo.now) ts (g.M.Memo.notes c.args.self.now.memo.now) in
+    omega (arith, take_deep ts T (stacked c.args.self.now.stack) c.args.newest c.args.answer c.requires.due, stacked_length c.args.self.now.stack)
 
 pub build-requires : goal.build-requires
 build-requires g c =
-    let ts = trees c.args.nodes.now in
-    let T = told (g.M.Memo.keeps c.args.memo.now) ts (g.M.Memo.notes c.args.memo.now) in
+    let ts = trees c.args.self.now.nodes.now in
+    let T = told (g.M.Memo.keeps c.args.self.now.memo.now) ts (g.M.Memo.notes c.args.self.now.memo.now) in
     let due = c.requires.due in
     let b = c.in-Done.ensures.continues ts due.pends.then (answer due.next) due.pends.awaits due.arrives.settled.denotes in
-    record { fitting = take_fitting ts T (stacked c.args.stack.now) c.args.newest c.args.answer due c.in-Done.node b }
+    record { fitting = take_fitting ts T (stacked c.args.self.now.stack) c.args.newest c.args.answer due c.in-Done.node b }
 
 pub returns-in_err-built-in-Done : goal.returns-in_err-built-in-Done
 returns-in_err-built-in-Done g c =
-    let ts = trees c.args.nodes.now in
+    let ts = trees c.args.self.now.nodes.now in
     let ts' = trees c.build.new.self in
-    let K = g.M.Memo.keeps c.args.memo.now in
-    let ns = g.M.Memo.notes c.args.memo.now in
-    let xs = stacked c.args.stack.now in
+    let K = g.M.Memo.keeps c.args.self.now.memo.now in
+    let ns = g.M.Memo.notes c.args.self.now.memo.now in
+    let xs = stacked c.args.self.now.stack in
     let x = c.args.newest in
     let due = c.requires.due in
     let b = c.in-Done.ensures.continues ts due.pends.then (answer due.next) due.pends.awaits due.arrives.settled.denotes in
     let joined = c.in_err-built-in-Done.ensures in
-    let lacks = take_lacks ts (told K ts ns) xs x c.args.answer due c.in-Done.node b (places c.args.nodes.now) ts' (joined.joins b.low_tree b.high_tree b.low_is b.high_is) in
+    let lacks = take_lacks ts (told K ts ns) xs x c.args.answer due c.in-Done.node b (places c.args.self.now.nodes.now) ts' (joined.joins b.low_tree b.high_tree b.low_is b.high_is) in
     record {
       notes = subst (λ us. AllRight us ns) (sym lacks.same) c.requires.notes;
       grows = grows_none ts ts' (ask_at ts x.question) lacks.same;
       counts = MatchResult-from_err c.from_residual.result _ _ c.from_residual.ensures.0 (λ _. tt);
       already = λ k. k;
       closed = λ k. subst (λ us. Closed us ns) (sym lacks.same) (c.requires.closed k);
-      takes = takes_err (places c.args.nodes.now) ts ts' (told K ts ns) (told K ts' ns) (ask_at ts x.question) xs xs _ c.from_residual.result c.from_residual.ensures.0 lacks;
+      takes = MatchResult-from_err c.from_residual.result _ _ c.from_residual.ensures.0 (λ _. lacks);
       places = joined.places;
+      nodes = refl;
+      memo = refl;
       named = joined.named;
     }
 
 pub returns-in-Wait : goal.returns-in-Wait
 returns-in-Wait g c =
-    let ts = trees c.args.nodes.now in
-    let K = g.M.Memo.keeps c.args.memo.now in
-    let ns = g.M.Memo.notes c.args.memo.now in
-    let xs = stacked c.args.stack.now in
+    let ts = trees c.args.self.now.nodes.now in
+    let K = g.M.Memo.keeps c.args.self.now.memo.now in
+    let ns = g.M.Memo.notes c.args.self.now.memo.now in
+    let xs = stacked c.args.self.now.stack in
     let ys = stacked c.push.new.self in
     let x = c.args.newest in
     let y : Pending = record { question = x.question; frame = c.in-Wait.wait.frame } in
@@ -65,23 +67,25 @@ returns-in-Wait g c =
     record {
       notes = c.requires.notes;
       grows = grows_none ts ts (ask_at ts x.question) refl;
-      counts = λ n k us ms final chain t. subst (λ zs. Tally us ms ts ns final zs n) (sym (stacked_more c.args.stack.now c.push.new.self y c.push.ensures.items)) (tally_waits us ms ts ns final x y xs n refl t);
+      counts = λ k us ms final chain t. subst (λ zs. Tally us ms ts ns final zs c.args.self.now.opened) (sym (stacked_more c.args.self.now.stack c.push.new.self y c.push.ensures.items)) (tally_waits us ms ts ns final x y xs c.args.self.now.opened refl t);
       already = λ k. k;
       closed = c.requires.closed;
-      takes = take_waits ts (told K ts ns) xs x c.args.answer due c.in-Wait.wait ys waits resumed.fewer (stacked_more c.args.stack.now c.push.new.self y c.push.ensures.items);
+      takes = take_waits ts (told K ts ns) xs x c.args.answer due c.in-Wait.wait ys waits resumed.fewer (stacked_more c.args.self.now.stack c.push.new.self y c.push.ensures.items);
       places = refl;
+      nodes = refl;
+      memo = refl;
       named = refl;
     }
 
 pub returns-in_ok-built-in-Done : goal.returns-in_ok-built-in-Done
 returns-in_ok-built-in-Done g c =
-    let ts = trees c.args.nodes.now in
+    let ts = trees c.args.self.now.nodes.now in
     let ts' = trees c.build.new.self in
-    let K = g.M.Memo.keeps c.args.memo.now in
+    let K = g.M.Memo.keeps c.args.self.now.memo.now in
     let K' = g.M.Memo.keeps c.note.new.self in
-    let ns = g.M.Memo.notes c.args.memo.now in
+    let ns = g.M.Memo.notes c.args.self.now.memo.now in
     let ns' = g.M.Memo.notes c.note.new.self in
-    let xs = stacked c.args.stack.now in
+    let xs = stacked c.args.self.now.stack in
     let x = c.args.newest in
     let due = c.requires.due in
     let k = c.in-Done.node in
@@ -93,10 +97,12 @@ returns-in_ok-built-in-Done g c =
     record {
       notes = ends_notes K K' ts ns xs x c.args.answer due k b ts' d j ns' c.requires.notes noted;
       grows = take_grows ts (told K ts ns) xs x c.args.answer due k b ts' d j;
-      counts = ends_counts K K' ts ns xs x c.args.answer due k b ts' d j ns' c.requires.notes noted;
+      counts = ends_counts K K' ts ns xs x c.args.answer due k b ts' d j ns' c.requires.notes noted c.args.self.now.opened;
       already = noted.already;
       closed = ends_closed K K' ts ns xs x c.args.answer due k b ts' d j ns' c.requires.notes noted c.requires.closed;
       takes = ends_steps K K' ts ns xs x c.args.answer due k b ts' d j ns' c.requires.notes noted;
       places = joined.places;
+      nodes = refl;
+      memo = refl;
       named = joined.named;
     }

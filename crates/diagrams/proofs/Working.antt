@@ -1,6 +1,6 @@
 -- The work on one question, from its first step to its answer.
-use Rattle.std.proofs.Common.{◌≡◌, ℕ, ◌<◌, ◌≤◌, true, List, [], ◌∷◌, ◌++◌, length, sym, refl, subst, arith}
-use Rattle.interning.specs.Distinct.{Within, Exact, NoRepeat}
+use Rattle.std.proofs.Common.{◌≡◌, ℕ, ◌<◌, ◌≤◌, List, [], ◌∷◌, ◌++◌, length, sym, refl, subst, arith}
+use Rattle.interning.specs.Distinct.{Within, NoRepeat}
 use Rattle.interning.proofs.Distinct.{counts}
 use Rattle.interning.proofs.Members.{in_right}
 use Rattle.memos.specs.declared.diagram.Diagram.{Diagram}
@@ -10,19 +10,16 @@ use Rattle.families.specs.Trees.{Tree, equal}
 use Rattle.families.specs.Questions.{Ask}
 use Rattle.families.specs.Outcomes.{outcome}
 use Rattle.families.specs.Meanings.{GoodAsk}
-use Rattle.families.proofs.Sights.{equal_is, equal_self}
 use Rattle.diagrams.specs.declared.solve.Step.{Step}
 use Rattle.diagrams.specs.declared.solve.Step.TheVariants.{Ask as Asking, Answer as Answering}
 use Rattle.diagrams.specs.declared.solve.Pending.{Pending}
 use Rattle.diagrams.specs.Asking.{Asks, ask_at}
 use Rattle.diagrams.specs.Building.{Lacks}
 use Rattle.diagrams.specs.Solving.{AllRight, Arrives, Closed, CountsOn, Grows, Chain, Due, Puttable, Runs, Tally, Tallied, Works, Steps, load, needed, told}
+use Rattle.diagrams.proofs.Merely.{trees_exact}
 use Rattle.diagrams.proofs.Settling.{within_joined, kept_trans, kept_within}
 use Rattle.diagrams.proofs.Stepping.{chain_part, grows_none}
 use Rattle.diagrams.proofs.Tallying.{tally_done, tally_start}
-
-equal_exact : Exact equal
-equal_exact s t = (equal_is s t, λ e. subst (λ z. equal s z ≡ true) e (equal_self s))
 
 pub works_start : (keeps : Type 0) (ts : List Tree) (ns : List Note) (question : Question) (xs : List Pending) (n : ℕ) → xs ≡ [] → n ≡ 0 → ((q : Ask) × Asks ts question q × GoodAsk 1 q)
     → (keeps → Closed ts ns) → Works keeps ts ns ts ns (Asking question) xs n (Asking question)
@@ -77,7 +74,7 @@ module _ (keeps : Type 0) (ts : List Tree) (ns : List Note) (ts' : List Tree) (n
     pub works_enough : ys ≡ [] → (cap : ℕ) → NoRepeat ts' → length ts' ≤ cap → needed ts w.final ≤ cap
     works_enough i cap once few =
         let all : Within (ts ++ (outcome w.final).built) ts' = within_joined ts (outcome w.final).built ts' (kept_within ts ts' w.grows.kept) (works_ended i).settled.held in
-        let counted = counts Tree equal equal_exact ts' (ts ++ (outcome w.final).built) once w.grows.only in
+        let counted = counts Tree equal trees_exact ts' (ts ++ (outcome w.final).built) once w.grows.only in
         omega (arith, counted.all all)
 
     -- x is the newest open question
@@ -117,7 +114,7 @@ module _ (keeps : Type 0) (ts : List Tree) (ns : List Note) (ts' : List Tree) (n
       -- there is no place for what is built
       pub works_short : (cap : ℕ) (ts'' : List Tree) → NoRepeat ts' → Lacks cap ts' (outcome (ask_at ts' x.question)).built ts'' → cap < needed ts w.final
       works_short cap ts'' once k =
-          let counted = counts Tree equal equal_exact ts' (ts ++ (outcome w.final).built) once w.grows.only in
+          let counted = counts Tree equal trees_exact ts' (ts ++ (outcome w.final).built) once w.grows.only in
           let full = k.full in
           omega (arith, counted.lacks k.missing (inside k.missing k.among) k.absent)
 

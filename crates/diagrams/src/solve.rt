@@ -59,13 +59,13 @@ struct Solver<'n, 'a, 'm, M: Memo> {
     memo: &'m mut M,
     stack: ArrayVec<Pending, 48>,
     opened: u64,
+    ghost right: { ∥ AllRight (trees nodes.now) (M.Memo.notes memo.now) ∥₁ },
+    ghost closed: { ∥ (M.Memo.keeps memo.now → Closed (trees nodes.now) (M.Memo.notes memo.now)) ∥₁ },
 }
 
 impl<'n, 'a, 'm, M: Memo> Solver<'n, 'a, 'm, M> {
     // Asks a question: it is answered at sight or by a note, or else it is opened.
     fn put(&mut self, question: Question) -> Step
-        requires notes { AllRight (trees self.old.nodes.now) (M.Memo.notes self.old.memo.now) }
-        requires closed { M.Memo.keeps self.old.memo.now → Closed (trees self.old.nodes.now) (M.Memo.notes self.old.memo.now) }
         requires puttable { Puttable (trees self.old.nodes.now) (length (stacked self.old.stack)) question }
         ensures nodes { self.new.nodes ≡ self.old.nodes }
         ensures memo { self.new.memo.ghost_name ≡ self.old.memo.ghost_name }
@@ -91,16 +91,12 @@ impl<'n, 'a, 'm, M: Memo> Solver<'n, 'a, 'm, M> {
 
     // Takes an answer to the open question that waits for it: it asks on, or its own answer is built and noted.
     fn take(&mut self, newest: Pending, answer: Diagram) -> Result<Step, Full>
-        requires notes { AllRight (trees self.old.nodes.now) (M.Memo.notes self.old.memo.now) }
-        requires closed { M.Memo.keeps self.old.memo.now → Closed (trees self.old.nodes.now) (M.Memo.notes self.old.memo.now) }
         requires due { Due (trees self.old.nodes.now) (told (M.Memo.keeps self.old.memo.now) (trees self.old.nodes.now) (M.Memo.notes self.old.memo.now)) (length (stacked self.old.stack)) newest answer }
         ensures nodes { self.new.nodes.ghost_name ≡ self.old.nodes.ghost_name }
         ensures memo { self.new.memo.ghost_name ≡ self.old.memo.ghost_name }
-        ensures notes { AllRight (trees self.new.nodes.now) (M.Memo.notes self.new.memo.now) }
         ensures grows { Grows (trees self.old.nodes.now) (trees self.new.nodes.now) (ask_at (trees self.old.nodes.now) newest.question) }
         ensures counts { OnOk result (CountsOn (M.Memo.keeps self.old.memo.now) (M.Memo.keeps self.new.memo.now) (trees self.old.nodes.now) (M.Memo.notes self.old.memo.now) (trees self.new.nodes.now) (M.Memo.notes self.new.memo.now) (ask_at (trees self.old.nodes.now) newest.question) (stacked self.old.stack) (newest ∷ stacked self.old.stack) (stacked self.new.stack) self.old.opened self.new.opened) }
         ensures already { M.Memo.keeps self.new.memo.now → M.Memo.keeps self.old.memo.now }
-        ensures closed { M.Memo.keeps self.new.memo.now → Closed (trees self.new.nodes.now) (M.Memo.notes self.new.memo.now) }
         ensures takes { Takes (places self.old.nodes.now) (trees self.old.nodes.now) (told (M.Memo.keeps self.old.memo.now) (trees self.old.nodes.now) (M.Memo.notes self.old.memo.now)) (trees self.new.nodes.now) (told (M.Memo.keeps self.new.memo.now) (trees self.new.nodes.now) (M.Memo.notes self.new.memo.now)) (ask_at (trees self.old.nodes.now) newest.question) (stacked self.old.stack) (stacked self.new.stack) (load (newest ∷ stacked self.old.stack) (Answering answer)) result }
         ensures places { places self.new.nodes.now ≡ places self.old.nodes.now }
         ensures named { self.new.nodes.now.interner.slots.ghost_name ≡ self.old.nodes.now.interner.slots.ghost_name }
@@ -124,8 +120,6 @@ impl<'n, 'a, 'm, M: Memo> Solver<'n, 'a, 'm, M> {
 
     // Works a question out, with no question open before.
     fn run(&mut self, question: Question) -> Result<Diagram, Full>
-        requires notes { AllRight (trees self.old.nodes.now) (M.Memo.notes self.old.memo.now) }
-        requires closed { M.Memo.keeps self.old.memo.now → Closed (trees self.old.nodes.now) (M.Memo.notes self.old.memo.now) }
         requires asks { (q : Asked) × Asks (trees self.old.nodes.now) question q × GoodAsk 1 q }
         requires none_open { stacked self.old.stack ≡ [] }
         requires none_opened { self.old.opened ≡ 0 }
@@ -134,9 +128,7 @@ impl<'n, 'a, 'm, M: Memo> Solver<'n, 'a, 'm, M> {
         ensures answer { (q : Asked) → Asks (trees self.old.nodes.now) question q → WorkedOut (places self.old.nodes.now) (trees self.old.nodes.now) (trees self.new.nodes.now) q result }
         ensures opened { M.Memo.keeps self.new.memo.now → (q : Asked) → Asks (trees self.old.nodes.now) question q → TalliedOut (trees self.old.nodes.now) (M.Memo.notes self.old.memo.now) (trees self.new.nodes.now) (M.Memo.notes self.new.memo.now) q result self.new.opened }
         ensures already { M.Memo.keeps self.new.memo.now → M.Memo.keeps self.old.memo.now }
-        ensures closed { M.Memo.keeps self.new.memo.now → Closed (trees self.new.nodes.now) (M.Memo.notes self.new.memo.now) }
         ensures grows { (q : Asked) → Asks (trees self.old.nodes.now) question q → Grows (trees self.old.nodes.now) (trees self.new.nodes.now) q }
-        ensures notes { AllRight (trees self.new.nodes.now) (M.Memo.notes self.new.memo.now) }
         ensures places { places self.new.nodes.now ≡ places self.old.nodes.now }
         ensures named { self.new.nodes.now.interner.slots.ghost_name ≡ self.old.nodes.now.interner.slots.ghost_name }
     {

@@ -6,7 +6,8 @@ use Rattle.diagrams.specs.Asking.{ask_at}
 use Rattle.diagrams.specs.Memory.{trees}
 use Rattle.diagrams.specs.Solving.{told}
 use Rattle.diagrams.specs.Stacks.{stacked}
-use Rattle.diagrams.proofs.Recalling.{opened_counts, recalled_arrives, recalled_counts, recalled_more}
+use Rattle.diagrams.proofs.Merely.{closed_out, right_out}
+use Rattle.diagrams.proofs.Recalling.{opened_counts, recalled_arrives, recalled_closed, recalled_counts, recalled_more, recalled_right}
 use Rattle.diagrams.proofs.Scripted.{seen_none, sight_arrives}
 use Rattle.diagrams.proofs.StackLists.{stacked_length, stacked_more}
 use Rattle.diagrams.proofs.Stepping.{put_answers, put_deep, put_opens}
@@ -39,6 +40,8 @@ returns-in-Some-recall g c =
     let ns = g.M.Memo.notes c.args.self.now.memo.now in
     let ns' = g.M.Memo.notes c.recall.new.self in
     let found = c.in-Some-recall.ensures.recalled in
+    let all = right_out (trees m) ns c.args.self.now.right in
+    let closed = closed_out (trees m) ns all c.args.self.now.closed in
     record {
       nodes = refl;
       memo = refl;
@@ -46,7 +49,7 @@ returns-in-Some-recall g c =
       counts = recalled_counts K K' m ns ns' q _ found (ask_at (trees m) q) xs c.args.self.now.opened;
       already = found.already;
       steps = put_answers (trees m) (told K (trees m) ns) (told K' (trees m) ns') (recalled_more K K' m ns ns' q _ found) q xs a c.in-Some-recall.answer
-          (recalled_arrives K K' m ns ns' q c.in-Some-recall.answer (length xs) a found c.requires.notes c.requires.closed);
+          (recalled_arrives K K' m ns ns' q c.in-Some-recall.answer (length xs) a found all closed);
     }
 
 pub push-requires : goal.push-requires
@@ -78,4 +81,26 @@ returns g c =
       counts = opened_counts K K' m ns ns' q x xs ys a unseen missed c.args.self.now.opened c.saturating_add-self.result c.saturating_add-self.ensures refl (stacked_more c.args.self.now.stack c.push.new.self x c.push.ensures.items);
       already = missed.already;
       steps = put_opens (trees m) (told K (trees m) ns) (told K' (trees m) ns') (recalled_more K K' m ns ns' q _ missed) q xs ys a unseen c.begin-wait.result begun.few (begun.waits a.this a.asks unseen) (stacked_more c.args.self.now.stack c.push.new.self x c.push.ensures.items);
+    }
+
+pub invariant_of-self-in-Some-recall : goal.invariant_of-self-in-Some-recall
+invariant_of-self-in-Some-recall g c =
+    let s = c.args.self.now in
+    let K' = g.M.Memo.keeps c.recall.new.self in
+    let ns' = g.M.Memo.notes c.recall.new.self in
+    let found = c.in-Some-recall.ensures.recalled in
+    record {
+      right = recalled_right (g.M.Memo.keeps s.memo.now) K' s.nodes.now (g.M.Memo.notes s.memo.now) ns' c.args.question _ found s.right;
+      closed = recalled_closed (g.M.Memo.keeps s.memo.now) K' s.nodes.now (g.M.Memo.notes s.memo.now) ns' c.args.question _ found s.closed;
+    }
+
+pub invariant_of-self-2 : goal.invariant_of-self-2
+invariant_of-self-2 g c =
+    let s = c.args.self.now in
+    let K' = g.M.Memo.keeps c.recall.new.self in
+    let ns' = g.M.Memo.notes c.recall.new.self in
+    let missed = c.in_default-recall.ensures.recalled in
+    record {
+      right = recalled_right (g.M.Memo.keeps s.memo.now) K' s.nodes.now (g.M.Memo.notes s.memo.now) ns' c.args.question _ missed s.right;
+      closed = recalled_closed (g.M.Memo.keeps s.memo.now) K' s.nodes.now (g.M.Memo.notes s.memo.now) ns' c.args.question _ missed s.closed;
     }

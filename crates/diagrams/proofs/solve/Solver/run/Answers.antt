@@ -8,12 +8,13 @@ use Rattle.std.proofs.lemmas.Result.{MatchResult-from_err}
 use Rattle.diagrams.specs.Memory.{places, trees}
 use Rattle.diagrams.specs.declared.nodes.NodeMemory.{NodeMemory}
 use Rattle.diagrams.specs.declared.solve.Step.TheVariants.{Ask as Asking}
-use Rattle.diagrams.specs.Solving.{AllRight, Settled, Tallied, Works, load, needed}
+use Rattle.diagrams.specs.Solving.{Settled, Tallied, Works, load, needed}
 use Rattle.diagrams.specs.Stacks.{stacked}
 use Rattle.diagrams.proofs.Memories.{memory_apart, memory_fits}
+use Rattle.diagrams.proofs.Merely.{closed_out, right_out}
 use Rattle.diagrams.proofs.StackLists.{stacked_more, stacked_none}
 use Rattle.diagrams.proofs.Stepping.{asks_once}
-use Rattle.diagrams.proofs.Working.{works_start, works_closed, works_puttable, works_put, works_ended, works_enough, works_tallied, works_due, works_taken, works_falls, works_short}
+use Rattle.diagrams.proofs.Working.{works_start, works_puttable, works_put, works_ended, works_enough, works_tallied, works_due, works_taken, works_falls, works_short}
 use Rattle.diagrams.proofs.solve.Solver.run.Goals as goal
 
 -- the answer, and places enough for it
@@ -22,8 +23,7 @@ Affords cap ts ts' d q = Settled ts' d q × (needed ts q ≤ cap)
 
 pub loop-step-init : goal.loop-step-init
 loop-step-init g c = (
-  works_start (g.M.Memo.keeps c.args.self.now.memo.now) (trees c.args.self.now.nodes.now) (g.M.Memo.notes c.args.self.now.memo.now) c.args.question (stacked c.args.self.now.stack) c.args.self.now.opened c.requires.none_open c.requires.none_opened c.requires.asks c.requires.closed,
-  c.requires.notes,
+  works_start (g.M.Memo.keeps c.args.self.now.memo.now) (trees c.args.self.now.nodes.now) (g.M.Memo.notes c.args.self.now.memo.now) c.args.question (stacked c.args.self.now.stack) c.args.self.now.opened c.requires.none_open c.requires.none_opened c.requires.asks (closed_out (trees c.args.self.now.nodes.now) (g.M.Memo.notes c.args.self.now.memo.now) (right_out (trees c.args.self.now.nodes.now) (g.M.Memo.notes c.args.self.now.memo.now) c.args.self.now.right) c.args.self.now.closed),
   (λ k. k),
   refl,
   refl,
@@ -35,8 +35,6 @@ pub put-step-requires : goal.put-step-requires
 put-step-requires g c =
     let i = c.loop-step.invariant in
     record {
-      notes = i.1;
-      closed = works_closed _ _ _ _ _ _ _ _ _ i.0;
       puttable = works_puttable _ _ _ _ _ _ _ _ _ i.0 c.in-Ask.asked c.in-Ask.is;
     }
 
@@ -57,7 +55,6 @@ loop-step-preserved-in-Ask g c =
     subst
     (λ (nodes : MutBor NodeMemory).
     Works K (trees start.nodes.now) (g.M.Memo.notes start.memo.now) (trees nodes.now) ns (Asking c.args.question) xs n c.put-step.result
-    × AllRight (trees nodes.now) ns
     × (K → g.M.Memo.keeps start.memo.now)
     × (places nodes.now ≡ places start.nodes.now)
     × (nodes.now.interner.slots.ghost_name ≡ start.nodes.now.interner.slots.ghost_name)
@@ -65,12 +62,11 @@ loop-step-preserved-in-Ask g c =
     × (c.put-step.new.self.memo.ghost_name ≡ start.memo.ghost_name))
     (sym put.nodes) (
       works_put _ _ _ _ _ _ _ _ _ i.0 c.in-Ask.asked c.in-Ask.is K ns xs n _ c.put-step.result put.already put.counts put.steps,
-      subst (AllRight (trees c.loop-step.self.nodes.now)) (sym put.notes) i.1,
-      (λ k. i.2 (put.already k)),
+      (λ k. i.1 (put.already k)),
+      i.2,
       i.3,
       i.4,
-      i.5,
-      put.memo ∙ i.6,
+      put.memo ∙ i.5,
     )
 
 pub returns-in_default-clause-answer : goal.returns-in_default-clause-answer
@@ -83,7 +79,7 @@ returns-in_default-clause-answer g c q a =
     let arrives = works_ended _ ts ns ts' _ _ _ _ _ i.0 c.in-Answer.answer c.in-Answer.is ended in
     let m = c.loop-step.self.nodes.now in
     let cap = places c.args.self.now.nodes.now in
-    let enough = works_enough _ ts ns ts' _ _ _ _ _ i.0 c.in-Answer.answer c.in-Answer.is ended cap (apart_once ts' (memory_apart m)) (subst (λ n. length ts' ≤ n) i.3 (memory_fits m)) in
+    let enough = works_enough _ ts ns ts' _ _ _ _ _ i.0 c.in-Answer.answer c.in-Answer.is ended cap (apart_once ts' (memory_apart m)) (subst (λ n. length ts' ≤ n) i.2 (memory_fits m)) in
     subst (Affords cap ts ts' c.in-Answer.answer) (asks_once ts c.args.question i.0.final q i.0.starts a) (arrives.settled, enough)
 
 pub returns-in_default-clause-opened : goal.returns-in_default-clause-opened
@@ -96,15 +92,10 @@ returns-in_default-clause-opened g c k q a =
     let tallied = works_tallied _ ts ns ts' _ _ _ _ _ i.0 c.in-Answer.answer c.in-Answer.is (stacked_none c.loop-step.self.stack c.in_default.ensures.variant.1) in
     subst (λ (p : Asked). Tallied ts ns ts' ns' (outcome p).asked c.loop-step.self.opened) (asks_once ts c.args.question i.0.final q i.0.starts a) (tallied k)
 
-pub returns-in_default-clause-closed : goal.returns-in_default-clause-closed
-returns-in_default-clause-closed g c = works_closed _ _ _ _ _ _ _ _ _ c.loop-step.invariant.0
-
 pub take-requires : goal.take-requires
 take-requires g c =
     let i = c.loop-step.invariant in
     record {
-      notes = i.1;
-      closed = works_closed _ _ _ _ _ _ _ _ _ i.0;
       due = works_due _ _ _ _ _ _ _ _ _ i.0 c.in-Answer.answer c.in-Answer.is c.in-Some.newest _ (stacked_more c.pop.new.self c.loop-step.self.stack c.in-Some.newest c.in-Some.ensures.items);
     }
 
@@ -119,12 +110,11 @@ loop-step-preserved g c =
     let taken = c.in_ok-step-in-Answer.ensures in
     let memo = c.take.new.self.memo.now in (
       works_taken _ _ _ _ _ _ _ _ _ i.0 c.in-Answer.answer c.in-Answer.is c.in-Some.newest _ (stacked_more c.pop.new.self c.loop-step.self.stack c.in-Some.newest c.in-Some.ensures.items) (g.M.Memo.keeps memo) (trees c.take.new.self.nodes.now) (g.M.Memo.notes memo) (stacked c.take.new.self.stack) c.take.new.self.opened _ c.in_ok-step-in-Answer.step taken.already taken.counts taken.grows taken.takes,
-      taken.notes,
-      (λ k. i.2 (taken.already k)),
-      taken.places ∙ i.3,
-      taken.named ∙ i.4,
-      taken.nodes ∙ i.5,
-      taken.memo ∙ i.6,
+      (λ k. i.1 (taken.already k)),
+      taken.places ∙ i.2,
+      taken.named ∙ i.3,
+      taken.nodes ∙ i.4,
+      taken.memo ∙ i.5,
     )
 
 pub returns-in_err-step-in-Answer-clause-answer : goal.returns-in_err-step-in-Answer-clause-answer
@@ -136,4 +126,4 @@ returns-in_err-step-in-Answer-clause-answer g c q a =
     let newest = stacked_more c.pop.new.self c.loop-step.self.stack c.in-Some.newest c.in-Some.ensures.items in
     let short = works_short _ ts _ ts' _ _ _ _ _ i.0 c.in-Answer.answer c.in-Answer.is c.in-Some.newest _ newest (places c.loop-step.self.nodes.now) (trees c.take.new.self.nodes.now) once c.in_err-step-in-Answer.ensures.takes in
     MatchResult-from_err c.from_residual.result _ _ c.from_residual.ensures.0 (λ _.
-    subst (λ (p : Asked). places c.args.self.now.nodes.now < needed ts p) (asks_once ts c.args.question i.0.final q i.0.starts a) (subst (λ n. n < needed ts i.0.final) i.3 short))
+    subst (λ (p : Asked). places c.args.self.now.nodes.now < needed ts p) (asks_once ts c.args.question i.0.final q i.0.starts a) (subst (λ n. n < needed ts i.0.final) i.2 short))

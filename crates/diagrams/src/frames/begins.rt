@@ -29,6 +29,7 @@ fn split(nodes: &NodeMemory<'_>, f: Diagram, g: Diagram) -> Halves
 }
 
 // What passes one of two.
+#[tactic(auto, using(crate::proofs::Begun::begins_either))]
 pub(super) fn begin_either(nodes: &NodeMemory<'_>, f: Diagram, g: Diagram) -> Wait
     ensures waits { (s t : Tree) → Denotes (trees nodes.now) f s → Denotes (trees nodes.now) g t → Waits (trees nodes.now) result (script (either s t)) }
     ensures few { ahead result.frame ≤ 6 }
@@ -45,6 +46,7 @@ pub(super) fn begin_either(nodes: &NodeMemory<'_>, f: Diagram, g: Diagram) -> Wa
 }
 
 // What passes both of two.
+#[tactic(auto, using(crate::proofs::Begun::begins_both))]
 pub(super) fn begin_both(nodes: &NodeMemory<'_>, f: Diagram, g: Diagram) -> Wait
     ensures waits { (s t : Tree) → Denotes (trees nodes.now) f s → Denotes (trees nodes.now) g t → Waits (trees nodes.now) result (script (both s t)) }
     ensures few { ahead result.frame ≤ 6 }
@@ -57,6 +59,7 @@ pub(super) fn begin_both(nodes: &NodeMemory<'_>, f: Diagram, g: Diagram) -> Wait
 }
 
 // The groups of the first that contain none of the second.
+#[tactic(auto, using(crate::proofs::Begun::begins_less))]
 pub(super) fn begin_less(nodes: &NodeMemory<'_>, f: Diagram, g: Diagram) -> Wait
     ensures waits { (s t : Tree) → Denotes (trees nodes.now) f s → Denotes (trees nodes.now) g t → Waits (trees nodes.now) result (script (less s t)) }
     ensures few { ahead result.frame ≤ 6 }
@@ -74,6 +77,7 @@ pub(super) fn begin_less(nodes: &NodeMemory<'_>, f: Diagram, g: Diagram) -> Wait
 }
 
 // The smallest groups that stop a family.
+#[tactic(auto, using(crate::proofs::Begun::begins_turn))]
 pub(super) fn begin_turn(nodes: &NodeMemory<'_>, f: Diagram) -> Wait
     ensures waits { (t : Tree) → Denotes (trees nodes.now) f t → Waits (trees nodes.now) result (script (turn t)) }
     ensures few { ahead result.frame ≤ 6 }

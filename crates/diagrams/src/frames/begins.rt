@@ -91,6 +91,7 @@ pub(super) fn begin_turn(nodes: &NodeMemory<'_>, f: Diagram) -> Wait
 }
 
 // A question on one diagram that asks the same of its two parts: `of` makes the question of a part.
+#[tactic(auto, using(crate::proofs::Begun::begins_parts))]
 pub(super) fn begin_parts<F: Fn(Diagram) -> Question>(
     nodes: &NodeMemory<'_>,
     f: Diagram,

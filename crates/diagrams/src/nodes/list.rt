@@ -12,6 +12,7 @@ use arrayvec::ArrayVec;
 use memos::diagram::{Diagram, View};
 
 // Writes a group from a place of the buffer on, the most significant byte first.
+#[tactic(auto, using(crate::proofs::Pages::put_mid_is))]
 fn put(buffer: &mut [u8], at: usize, group: u64)
     requires { at + 8 ≤ length buffer.old }
     ensures { buffer.new ≡ take at buffer.old ++ (group_bytes group ++ drop (at + 8) buffer.old) }

@@ -1,12 +1,13 @@
 -- A question that is opened: its script is what its first frame waits for, and what that goes on to do.
-use Rattle.std.proofs.Common.{◌≡◌, ℕ, List, sym, refl, ap, ◌∙◌}
+use Rattle.std.proofs.Common.{◌≡◌, ℕ, List, sym, refl, ap, ◌∙◌, subst}
 use Rattle.memos.specs.declared.diagram.Diagram.{Diagram}
+use Rattle.memos.specs.declared.question.Question.{Question}
 use Rattle.memos.specs.declared.question.Question.TheVariants.{Either, Both, Less, Turn, Off, On}
 use Rattle.families.specs.Trees.{Tree}
-use Rattle.families.specs.Questions.{either, both, less, turn, off, on, low_at, high_at, top}
+use Rattle.families.specs.Questions.{Ask, either, both, less, turn, off, on, low_at, high_at, top}
 use Rattle.families.specs.Scripts.{Script, script, builds, ask}
 use Rattle.diagrams.specs.declared.frames.Frame.{Frame}
-use Rattle.diagrams.specs.declared.frames.Frame.TheVariants.{EitherLow, Both as InBoth, Less as InLess, Turn as InTurn, OffLow, OnLow}
+use Rattle.diagrams.specs.declared.frames.Frame.TheVariants.{EitherLow, Both as InBoth, Less as InLess, Turn as InTurn, Low}
 use Rattle.diagrams.specs.declared.frames.BothFrame.TheVariants.{Low as BothLow}
 use Rattle.diagrams.specs.declared.frames.LessFrame.TheVariants.{Low as LessLow}
 use Rattle.diagrams.specs.declared.frames.TurnFrame.TheVariants.{Low as TurnLow}
@@ -14,7 +15,7 @@ use Rattle.diagrams.specs.declared.frames.Halves.{Halves}
 use Rattle.diagrams.specs.declared.frames.Wait.{Wait}
 use Rattle.diagrams.specs.NodeKeys.{tree_at}
 use Rattle.diagrams.specs.Building.{Denotes}
-use Rattle.diagrams.specs.Asking.{OperandsHeld, ask_at}
+use Rattle.diagrams.specs.Asking.{Asks, OperandsHeld, ask_at}
 use Rattle.diagrams.specs.Frames.{Awaits, FrameHeld, Halved, Waits, continuation}
 
 -- a frame that waits for a script, to the letter
@@ -69,10 +70,22 @@ module _ (ts : List Tree) (v : ℕ) (f0 f1 : Diagram) (t : Tree) (at : v ≡ top
   unfolding script
   begins_turn = waits_on ts _ _ (over_parts (λ w a b. ask (turn a) (λ x. ask (turn b) (λ y. ask (both x y) (λ l. ask (less x l) (λ h. builds w l h)))))) low.within high.within
 
-  pub begins_off : (u : ℕ) → Waits ts (record { frame = OffLow v f1 u; question = Off f0 u }) (script (off t u))
-  unfolding script
-  begins_off u = waits_on ts _ _ (over_parts (λ w a b. ask (off a u) (λ l. ask (off b u) (λ h. builds w l h)))) low.within high.within
+  pub begins_parts : (q : Tree → Ask) (first next : Question) → Asks ts first (q (low_at v t)) → Asks ts next (q (high_at v t))
+      → Waits ts (record { frame = Low v next; question = first }) (ask (q (low_at (top t) t)) (λ l. ask (q (high_at (top t) t)) (λ h. builds (top t) l h)))
+  begins_parts q first next x y = waits_on ts _ _ (ap (λ u. ask (q (low_at u t)) (λ l. ask (q (high_at u t)) (λ h. builds u l h))) (sym at) ∙ sym (λ i. ask (x.is i) (λ l. ask (y.is i) (λ h. builds v l h)))) x.held y.held
 
-  pub begins_on : (u : ℕ) → Waits ts (record { frame = OnLow v f1 u; question = On f0 u }) (script (on t u))
+-- a question on a member, u, of one operand
+module _ (ts : List Tree) (f : Diagram) (u : ℕ) where
+  pub off_asked : (question : Question) → question ≡ Off f u → (t : Tree) → Denotes ts f t → Asks ts question (off t u)
+  off_asked question e t x = subst (λ z. Asks ts z (off t u)) (sym e) (record { held = x.within; is = λ i. off (x.is i) u })
+
+  pub on_asked : (question : Question) → question ≡ On f u → (t : Tree) → Denotes ts f t → Asks ts question (on t u)
+  on_asked question e t x = subst (λ z. Asks ts z (on t u)) (sym e) (record { held = x.within; is = λ i. on (x.is i) u })
+
+  pub off_begins : (w : Wait) (q : Ask) → Asks ts (Off f u) q → ((t : Tree) → Denotes ts f t → Waits ts w (ask (off (low_at (top t) t) u) (λ l. ask (off (high_at (top t) t) u) (λ h. builds (top t) l h)))) → Waits ts w (script q)
   unfolding script
-  begins_on u = waits_on ts _ _ (over_parts (λ w a b. ask (on a u) (λ l. ask (on b u) (λ h. builds w l h)))) low.within high.within
+  off_begins w q a waits = subst (λ z. Waits ts w (script z)) a.is (waits (tree_at ts f) (record { within = a.held; is = refl }))
+
+  pub on_begins : (w : Wait) (q : Ask) → Asks ts (On f u) q → ((t : Tree) → Denotes ts f t → Waits ts w (ask (on (low_at (top t) t) u) (λ l. ask (on (high_at (top t) t) u) (λ h. builds (top t) l h)))) → Waits ts w (script q)
+  unfolding script
+  on_begins w q a waits = subst (λ z. Waits ts w (script z)) a.is (waits (tree_at ts f) (record { within = a.held; is = refl }))

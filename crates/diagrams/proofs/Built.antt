@@ -1,6 +1,8 @@
 -- Building: a node that is interned is the tree over its parts, and the memory stays one of trees of families.
 use Rattle.std.proofs.Common.{◌≡◌, ℕ, ◌+◌, ◌^◌, ◌<◌, ◌≤◌, true, false, cond, List, [], ◌∷◌, ◌++◌, length, Some, None, Ok, Err, Option, Result, sym, refl, ap, ◌∙◌, subst, inl, ⊎_elim, not-suc-le-zero, arith, MatchOption}
 use Rattle.std.specs.Option.{ok_or}
+use lib.Dec.{eqb}
+use Rattle.std.proofs.lemmas.Bool.{eq-eqb, eqb-true, false≢true}
 use Rattle.interning.specs.declared.interner.Full.{Full}
 use Rattle.interning.specs.Decode.{Rooted, decode}
 use Rattle.interning.specs.Distinct.{◌∈◌, Within}
@@ -13,7 +15,8 @@ use Rattle.interning.proofs.Places.{kept_same, places_push}
 use Rattle.memos.specs.declared.diagram.Diagram.{Diagram}
 use Rattle.memos.specs.declared.diagram.View.{View}
 use Rattle.memos.specs.declared.diagram.View.TheVariants.{None as Never, Always, Node as Place}
-use Rattle.memos.specs.Diagrams.{seen}
+use Rattle.memos.specs.Diagrams.{named, seen}
+use Rattle.memos.proofs.Diagrams.{seen_alike}
 use Rattle.families.specs.Groups.{is_member}
 use Rattle.families.specs.Trees.{Tree, none, always, node, alone, build, is_none}
 use Rattle.families.specs.Good.{Good, Proper}
@@ -31,6 +34,13 @@ nodal_some : (t : Tree) → Nodal t → is_none t ≡ false
 nodal_some none p = p
 nodal_some always p = refl
 nodal_some (node v l h) p = refl
+
+-- the test for the name none
+pub named_none : (d e : Diagram) → seen e ≡ Never → eqb d.code e.code ≡ true → seen d ≡ Never
+named_none d e empty same = ap named (eqb-true d.code e.code same) ∙ empty
+
+pub named_some : (d e : Diagram) → seen e ≡ Never → eqb d.code e.code ≡ false → seen d ≡ Never → ⊥
+named_some d e empty apart is = false≢true (sym apart ∙ eq-eqb d.code e.code (ap (λ x. x.code) (seen_alike d e (is ∙ sym empty))))
 
 -- what has a name other than none has a group
 pub view_some : (ts : List Tree) → Each Nodal ts → (v : View) → (v ≡ Never → ⊥) → Below (length ts) v → is_none (tree_of ts v) ≡ false

@@ -6,6 +6,7 @@ use Rattle.memos.specs.Notes.{Note, Noted}
 use Rattle.families.specs.Trees.{Tree, build}
 use Rattle.families.specs.Questions.{Ask}
 use Rattle.families.specs.Outcomes.{made, outcome, answer}
+use Rattle.diagrams.specs.declared.node.Node.{Node}
 use Rattle.diagrams.specs.declared.solve.Step.TheVariants.{Answer as Answering}
 use Rattle.diagrams.specs.declared.solve.Pending.{Pending}
 use Rattle.diagrams.specs.Asking.{ask_at}
@@ -17,10 +18,10 @@ use Rattle.diagrams.proofs.Taking.{take_ends, take_right, take_tells}
 use Rattle.diagrams.proofs.Tallying.{noted_closed, noted_here, noted_still, tally_ends}
 
 module _ (keeps keeps' : Type 0) (ts : List Tree) (ns : List Note) (xs : List Pending) (x : Pending) (d : Diagram) (due : Due ts (told keeps ts ns) (length xs) x d)
-    (v : ℕ) (low high : Diagram) (b : Builds ts v low high (due.pends.then (answer due.next))) (ts' : List Tree) (built : Diagram)
-    (j : Made ts (build v b.low_tree b.high_tree) (made v b.low_tree b.high_tree) built ts') (ns' : List Note) (all : AllRight ts ns) (noted : Noted keeps keeps' ns ns' x.question built) where
+    (node : Node) (b : Builds ts node (due.pends.then (answer due.next))) (ts' : List Tree) (built : Diagram)
+    (j : Made ts (build node.member b.low_tree b.high_tree) (made node.member b.low_tree b.high_tree) built ts') (ns' : List Note) (all : AllRight ts ns) (noted : Noted keeps keeps' ns ns' x.question built) where
   pub ends_notes : AllRight ts' ns'
-  ends_notes = all_noted ts ts' ns ns' x.question built j.kept all (take_right ts (told keeps ts ns) xs x d due v low high b ts' built j) noted
+  ends_notes = all_noted ts ts' ns ns' x.question built j.kept all (take_right ts (told keeps ts ns) xs x d due node b ts' built j) noted
 
   more : (r : Ask) → told keeps ts ns r → told keeps' ts' ns' r
   more r h k = noted_still keeps keeps' ts ts' j.kept ns ns' all x.question due.this built due.pends.asks noted k r (h (noted.already k))
@@ -29,7 +30,7 @@ module _ (keeps keeps' : Type 0) (ts : List Tree) (ns : List Note) (xs : List Pe
   here k = noted_here keeps keeps' ts ts' j.kept ns ns' all x.question due.this built due.pends.asks noted k
 
   tells : keeps' → (r : Ask) → r ∈ (outcome due.this).asked → HasNote ts' ns' r
-  tells k r m = take_tells ts (told keeps ts ns) xs x d due v low high b (told keeps' ts' ns') more here r m k
+  tells k r m = take_tells ts (told keeps ts ns) xs x d due node b (told keeps' ts' ns') more here r m k
 
   pub ends_closed : (keeps → Closed ts ns) → keeps' → Closed ts' ns'
   ends_closed closed k = noted_closed keeps keeps' ts ts' j.kept ns ns' all x.question due.this built due.pends.asks noted k (tells k) (closed (noted.already k))
@@ -40,4 +41,4 @@ module _ (keeps keeps' : Type 0) (ts : List Tree) (ns : List Note) (xs : List Pe
       (subst (λ p. Chain ts (told keeps ts ns) final xs p) due.pends.asks.is c) t
 
   pub ends_steps : Steps ts (told keeps ts ns) ts' (told keeps' ts' ns') (ask_at ts x.question) xs xs (suc (ahead x.frame) * span (48 - length xs) + weight xs) (Answering built)
-  ends_steps = take_ends ts (told keeps ts ns) xs x d due v low high b ts' built j (told keeps' ts' ns') more here
+  ends_steps = take_ends ts (told keeps ts ns) xs x d due node b ts' built j (told keeps' ts' ns') more here

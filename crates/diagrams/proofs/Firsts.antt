@@ -88,6 +88,13 @@ name_falls (suc (suc m)) zero p e b = omega arith
 name_falls (suc (suc m)) (suc zero) p e b = omega arith
 name_falls (suc (suc m)) (suc (suc n)) p e b = let same : p ≡ m = cc in omega arith
 
+-- the member of a node is one
+pub member_stands : (m : NodeMemory) (p : ℕ) (k : Node) → Stands (held m.interner) k p → is_member k.member ≡ true
+member_stands m p k stands =
+    let within : p < length (trees m) = omega (arith, stands.within, length_decode node_tree (held m.interner)) in
+    let proper = subst Proper (place_tree m p k none stands) (memory_proper m p none within) in
+    is_member_lem k.member proper.good.fits.1
+
 module _ (m : NodeMemory) (d : Diagram) (p : ℕ) (k : Node) (is : Place p ≡ seen d) (stands : Stands (held m.interner) k p) where
   pub low_falls : k.low.code < d.code
   low_falls = name_falls d.code k.low.code p is (place_names m p k stands).0
@@ -102,10 +109,7 @@ module _ (m : NodeMemory) (d : Diagram) (p : ℕ) (k : Node) (is : Place p ≡ s
   high_denotes = record { within = (place_within m p k stands).1; is = refl }
 
   pub member_held : is_member k.member ≡ true
-  member_held =
-      let within : p < length (trees m) = omega (arith, stands.within, length_decode node_tree (held m.interner)) in
-      let proper = subst Proper (place_tree m p k none stands) (memory_proper m p none within) in
-      is_member_lem k.member proper.good.fits.1
+  member_held = member_stands m p k stands
 
   -- the first group below a limit that has the member
   pub first_high : (n w x : ℕ) (o : Option ℕ) → w ≡ weight k.member → x ≡ n - w → o ≡ first_below x (groups (tree_at (trees m) k.high)) → o ≡ first_below (n - weight k.member) (groups (tree_at (trees m) k.high))

@@ -11,7 +11,7 @@ use Rattle.families.specs.Questions.{Ask, either, both, less, turn, off, on}
 use Rattle.families.specs.Scripts.{Script, builds, ask}
 use Rattle.families.specs.Trees.{Tree, none}
 use Rattle.diagrams.specs.declared.frames.Frame.{Frame}
-use Rattle.diagrams.specs.declared.frames.Frame.TheVariants.{EitherLow, Both as InBoth, Less as InLess, Turn as InTurn, OffLow, OnLow, Highs, High}
+use Rattle.diagrams.specs.declared.frames.Frame.TheVariants.{EitherLow, Both as InBoth, Less as InLess, Turn as InTurn, Low, Highs, High}
 use Rattle.diagrams.specs.declared.frames.BothFrame.TheVariants.{Low as BothLow, HighHigh as BothHighHigh, HighLow as BothHighLow, Join as BothJoin, LowHigh as BothLowHigh}
 use Rattle.diagrams.specs.declared.frames.LessFrame.TheVariants.{Low as LessLow, High as LessHigh}
 use Rattle.diagrams.specs.declared.frames.TurnFrame.TheVariants.{Low as TurnLow, High as TurnHigh, Both as TurnBoth}
@@ -71,8 +71,7 @@ module _ (ts ts' : List Tree) (kept : Kept ts ts') where
   frame_kept (InTurn (TurnLow v f1)) b = held_kept f1 b
   frame_kept (InTurn (TurnHigh v turned)) b = held_kept turned b
   frame_kept (InTurn (TurnBoth v turned)) b = held_kept turned b
-  frame_kept (OffLow v f1 away) b = held_kept f1 b
-  frame_kept (OnLow v f1 away) b = held_kept f1 b
+  frame_kept (Low v high) b = operands_kept high b
   frame_kept (Highs v low) b = held_kept low b
   frame_kept (High v low) b = held_kept low b
 
@@ -103,8 +102,7 @@ module _ (ts ts' : List Tree) (kept : Kept ts ts') where
   continuation_kept (InTurn (TurnLow v f1)) b a i = ask (turn (tree_kept f1 b i)) (λ c. ask (both a c) (λ l. ask (less a l) (λ h. builds v l h)))
   continuation_kept (InTurn (TurnHigh v turned)) b c i = ask (both (tree_kept turned b i) c) (λ l. ask (less (tree_kept turned b i) l) (λ h. builds v l h))
   continuation_kept (InTurn (TurnBoth v turned)) b l i = ask (less (tree_kept turned b i) l) (λ h. builds v l h)
-  continuation_kept (OffLow v f1 away) b l i = ask (off (tree_kept f1 b i) away) (λ h. builds v l h)
-  continuation_kept (OnLow v f1 away) b l i = ask (on (tree_kept f1 b i) away) (λ h. builds v l h)
+  continuation_kept (Low v high) b l i = ask (ask_kept high b i) (λ h. builds v l h)
   continuation_kept (Highs v low) b x i = from_highs v low b x i
   continuation_kept (High v low) b h i = builds v (tree_kept low b i) h
 

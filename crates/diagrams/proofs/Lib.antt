@@ -26,4 +26,5 @@ pub mod Working
 pub mod Uniquely
 pub mod Tallying
 pub mod Recalling
+pub mod Merely
 pub mod Ending

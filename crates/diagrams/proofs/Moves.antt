@@ -95,8 +95,8 @@ module _ (m : NodeMemory) (cs cs' : List Cell) (closed : ClosedFrom (held m.inte
   built = is-node ∙ sym (place_tree m p k none stands)
 
   -- so the node may be built over its moved parts
-  pub fitting : Fitting ts' k.member low high
-  fitting = record { low_held = low_moved.within; high_held = high_moved.within; good = rw (low_moved.is, high_moved.is, is-node) proper.good }
+  pub fitting : Fitting ts' (record { member = k.member; low = low; high = high })
+  fitting = record { names = (low_moved.within, high_moved.within); good = rw (low_moved.is, high_moved.is, is-node) proper.good }
 
   one : made k.member low_tree high_tree ≡ build k.member low_tree high_tree ∷ []
   one = made_one k.member low_tree high_tree proper.good.some

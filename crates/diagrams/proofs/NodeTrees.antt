@@ -44,7 +44,7 @@ not_none t p e = false≢true (sym p ∙ sym (ap (λ s. is_none s || is_always s
 not_always : (t : Tree) → Nodal t → always ≢ t
 not_always t p e = false≢true (sym p ∙ sym (ap (λ s. is_none s || is_always s) e))
 
-below_prop : (n : ℕ) (v : View) → IsProp (Below n v)
+pub below_prop : (n : ℕ) (v : View) → IsProp (Below n v)
 below_prop n None = λ x y. refl
 below_prop n Always = λ x y. refl
 below_prop n (Place p) = le_prop

@@ -1,5 +1,6 @@
 -- A memo is asked for a note: what is told stays told, and what was counted stays counted.
 use Rattle.std.proofs.Common.{◌≡◌, ℕ, ◌+◌, ◌-◌, ◌^◌, min, List, ◌∷◌, length, Some, None, Option, sym, subst}
+use mathlib.Core.Logic.{∥∥₁_map}
 use Rattle.interning.specs.Distinct.{◌∈◌}
 use Rattle.memos.specs.declared.diagram.Diagram.{Diagram}
 use Rattle.memos.specs.declared.question.Question.{Question}
@@ -18,6 +19,12 @@ module _ (keeps keeps' : Type 0) (m : NodeMemory) (ns ns' : List Note) (question
   module _ (r : Option Diagram) (told_of : Recalled keeps keeps' ns ns' question r) where
     pub recalled_more : (q : Ask) → told keeps (trees m) ns q → told keeps' (trees m) ns' q
     recalled_more q h k = subst (λ z. HasNote (trees m) z q) (sym told_of.notes) (h (told_of.already k))
+
+    pub recalled_right : ∥ AllRight (trees m) ns ∥₁ → ∥ AllRight (trees m) ns' ∥₁
+    recalled_right right = ∥∥₁_map right (λ all. subst (AllRight (trees m)) (sym told_of.notes) all)
+
+    pub recalled_closed : ∥ (keeps → Closed (trees m) ns) ∥₁ → ∥ (keeps' → Closed (trees m) ns') ∥₁
+    recalled_closed closed = ∥∥₁_map closed (λ c k. subst (Closed (trees m)) (sym told_of.notes) (c (told_of.already k)))
 
     -- no question is opened
     pub recalled_counts : (q : Ask) (xs : List Pending) (n : ℕ) → CountsOn keeps keeps' (trees m) ns (trees m) ns' q xs xs xs n n

@@ -1,15 +1,20 @@
 -- What is seen of a question, test by test.
 use Rattle.std.proofs.Common.{◌≡◌, ℕ, ◌<◌, ◌≤◌, Bool, true, false, ◌||◌, List, length, Some, None, Decides, sym, refl, ap, ◌∙◌, subst, ⊎_elim, arith}
-use Rattle.std.proofs.lemmas.Bool.{cases_Bool, lt-ltb, le-ltb, eq-eqb, ne_eqb, false≢true}
+use Rattle.std.proofs.lemmas.Bool.{cases_Bool, cases_order, lt-ltb, le-ltb, eq-eqb, ne_eqb, false≢true, true≢false}
 use Rattle.memos.specs.declared.diagram.Diagram.{Diagram}
-use Rattle.memos.specs.declared.diagram.View.TheVariants.{Always}
+use Rattle.memos.specs.declared.diagram.View.TheVariants.{None as Never, Always, Node as Place}
 use Rattle.memos.specs.Diagrams.{seen as named}
 use Rattle.families.specs.Trees.{Tree, none, always, node, is_none, is_always, equal}
-use Rattle.families.specs.Questions.{Sight, either, both, less, turn, off, on, seen, opens, sight}
+use Rattle.families.specs.Questions.{Sight, either, both, less, turn, off, on, low_at, high_at, seen, opens, sight}
 use Rattle.families.proofs.Sights.{equal_is, equal_self}
 use Rattle.diagrams.specs.NodeKeys.{Below, tree_of, tree_at}
 use Rattle.diagrams.specs.Building.{Denotes}
 use Rattle.diagrams.specs.Asking.{Seen}
+use Rattle.diagrams.specs.Memory.{trees}
+use Rattle.diagrams.specs.declared.nodes.NodeMemory.{NodeMemory}
+use Rattle.diagrams.proofs.Memories.{memory_each}
+use Rattle.diagrams.proofs.Opened.{none_denotes}
+use Rattle.diagrams.proofs.NodeTrees.{Nodal}
 
 -- a test that came out false
 pub fails : (r : Bool) (P : Type 0) → Decides r P → r ≡ false → P → ⊥
@@ -18,6 +23,17 @@ fails r P d e p = false≢true (sym e ∙ d.1 p)
 -- a diagram that is held denotes its tree
 pub held_denotes : (ts : List Tree) (d : Diagram) → Below (length ts) (named d) → Denotes ts d (tree_at ts d)
 held_denotes ts d b = record { within = b; is = refl }
+
+-- the tree of a diagram that is none, always or a place
+module _ {ts : List Tree} {d : Diagram} {t : Tree} (den : Denotes ts d t) where
+  pub is_never : Never ≡ named d → t ≡ none
+  is_never e = sym den.is ∙ sym (ap (tree_of ts) e)
+
+  pub is_ever : Always ≡ named d → t ≡ always
+  is_ever e = sym den.is ∙ sym (ap (tree_of ts) e)
+
+pub is_nodal : (m : NodeMemory) {d : Diagram} {p : ℕ} {t : Tree} → Denotes (trees m) d t → Place p ≡ named d → Nodal t
+is_nodal m {d} {p} den e = subst Nodal (ap (tree_of (trees m)) e ∙ den.is) (memory_each m p none (subst (Below (length (trees m))) (sym e) den.within))
 
 -- a diagram that is always has no tree but always
 pub always_denotes : (ts : List Tree) (d : Diagram) → named d ≡ Always → Denotes ts d always
@@ -61,13 +77,13 @@ either_same none t e = rw (← e)
 either_same always t e = rw (← e)
 either_same (node v a b) t e = rw (← e, equal_self (node v a b))
 
-pub either_opens : (s t : Tree) → (s ≡ none → ⊥) → (t ≡ none → ⊥) → (s ≡ always → ⊥) → (t ≡ always → ⊥) → (s ≡ t → ⊥) → sight (either s t) ≡ opens
+pub either_opens : (s t : Tree) → Nodal s → Nodal t → (s ≡ t → ⊥) → sight (either s t) ≡ opens
 unfolding sight
-either_opens none t p q x y n = absurd (p refl)
-either_opens always t p q x y n = absurd (x refl)
-either_opens (node v a b) none p q x y n = absurd (q refl)
-either_opens (node v a b) always p q x y n = absurd (y refl)
-either_opens (node v a b) (node w c d) p q x y n = rw (differ (node v a b) (node w c d) n)
+either_opens none t p q n = absurd (true≢false p)
+either_opens always t p q n = absurd (true≢false p)
+either_opens (node v a b) none p q n = absurd (true≢false q)
+either_opens (node v a b) always p q n = absurd (true≢false q)
+either_opens (node v a b) (node w c d) p q n = rw (differ (node v a b) (node w c d) n)
 
 pub none_both : (s t : Tree) → s ≡ none → sight (both s t) ≡ seen s
 unfolding sight
@@ -97,13 +113,13 @@ both_same none t e = refl
 both_same always t e = rw (← e)
 both_same (node v a b) t e = rw (← e, equal_self (node v a b))
 
-pub both_opens : (s t : Tree) → (s ≡ none → ⊥) → (t ≡ none → ⊥) → (s ≡ always → ⊥) → (t ≡ always → ⊥) → (s ≡ t → ⊥) → sight (both s t) ≡ opens
+pub both_opens : (s t : Tree) → Nodal s → Nodal t → (s ≡ t → ⊥) → sight (both s t) ≡ opens
 unfolding sight
-both_opens none t p q x y n = absurd (p refl)
-both_opens always t p q x y n = absurd (x refl)
-both_opens (node v a b) none p q x y n = absurd (q refl)
-both_opens (node v a b) always p q x y n = absurd (y refl)
-both_opens (node v a b) (node w c d) p q x y n = rw (differ (node v a b) (node w c d) n)
+both_opens none t p q n = absurd (true≢false p)
+both_opens always t p q n = absurd (true≢false p)
+both_opens (node v a b) none p q n = absurd (true≢false q)
+both_opens (node v a b) always p q n = absurd (true≢false q)
+both_opens (node v a b) (node w c d) p q n = rw (differ (node v a b) (node w c d) n)
 
 pub none_less : (s t : Tree) → s ≡ none → sight (less s t) ≡ seen s
 unfolding sight
@@ -133,13 +149,13 @@ less_same none t e = refl
 less_same always t e = rw (← e)
 less_same (node v a b) t e = rw (← e, equal_self (node v a b))
 
-pub less_opens : (s t : Tree) → (s ≡ none → ⊥) → (t ≡ none → ⊥) → (s ≡ always → ⊥) → (t ≡ always → ⊥) → (s ≡ t → ⊥) → sight (less s t) ≡ opens
+pub less_opens : (s t : Tree) → Nodal s → Nodal t → (s ≡ t → ⊥) → sight (less s t) ≡ opens
 unfolding sight
-less_opens none t p q x y n = absurd (p refl)
-less_opens always t p q x y n = absurd (x refl)
-less_opens (node v a b) none p q x y n = absurd (q refl)
-less_opens (node v a b) always p q x y n = absurd (y refl)
-less_opens (node v a b) (node w c d) p q x y n = rw (differ (node v a b) (node w c d) n)
+less_opens none t p q n = absurd (true≢false p)
+less_opens always t p q n = absurd (true≢false p)
+less_opens (node v a b) none p q n = absurd (true≢false q)
+less_opens (node v a b) always p q n = absurd (true≢false q)
+less_opens (node v a b) (node w c d) p q n = rw (differ (node v a b) (node w c d) n)
 
 pub turn_none : (t : Tree) → t ≡ none → sight (turn t) ≡ seen always
 unfolding sight
@@ -149,46 +165,35 @@ pub turn_always : (t : Tree) → t ≡ always → sight (turn t) ≡ seen none
 unfolding sight
 turn_always t e = ap (λ z. sight (turn z)) e
 
-pub turn_opens : (t : Tree) → (t ≡ none → ⊥) → (t ≡ always → ⊥) → sight (turn t) ≡ opens
+pub turn_opens : (t : Tree) → Nodal t → sight (turn t) ≡ opens
 unfolding sight
-turn_opens none p x = absurd (p refl)
-turn_opens always p x = absurd (x refl)
-turn_opens (node v a b) p x = refl
+turn_opens none p = absurd (true≢false p)
+turn_opens always p = absurd (true≢false p)
+turn_opens (node v a b) p = refl
 
-pub off_end : (t : Tree) (u : ℕ) → (is_none t || is_always t) ≡ true → sight (off t u) ≡ seen t
+-- what is seen of a question on a member, u: the parts at it
+pub parts_end : (t : Tree) (u : ℕ) → (is_none t || is_always t) ≡ true → (sight (off t u) ≡ seen (low_at u t)) × (sight (on t u) ≡ seen (high_at u t))
 unfolding sight
-off_end none u e = refl
-off_end always u e = refl
-off_end (node v a b) u e = absurd (false≢true e)
+parts_end none u e = (refl, refl)
+parts_end always u e = (refl, refl)
+parts_end (node v a b) u e = absurd (false≢true e)
 
-pub on_end : (t : Tree) (u : ℕ) → (is_none t || is_always t) ≡ true → sight (on t u) ≡ seen none
-unfolding sight
-on_end none u e = refl
-on_end always u e = refl
-on_end (node v a b) u e = absurd (false≢true e)
-
--- the questions on a member, u, of a node with the top v
+-- of a node with the top v
 module _ {t a b : Tree} {v : ℕ} (u : ℕ) (is : t ≡ node v a b) where
-  pub off_before : u < v → sight (off t u) ≡ seen t
+  pub parts_seen : u ≤ v → (sight (off t u) ≡ seen (low_at u t)) × (sight (on t u) ≡ seen (high_at u t))
   unfolding sight
-  off_before h = let l = lt-ltb u v h in subst (λ z. sight (off z u) ≡ seen z) (sym is) (rw l)
+  parts_seen h =
+      subst (λ z. (sight (off z u) ≡ seen (low_at u z)) × (sight (on z u) ≡ seen (high_at u z))) (sym is)
+      (⊎_elim
+      (λ (e : u ≡ v). let l = le-ltb u v (omega arith) in let q = eq-eqb u v e in (rw (l, q), rw (l, q)))
+      (⊎_elim (λ (s : u < v). let l = lt-ltb u v s in let q = ne_eqb u v (omega arith) in (rw (l, q), rw (l, q))) (λ (s : v < u). absurd (omega arith)))
+      (cases_order u v))
 
-  pub off_here : u ≡ v → sight (off t u) ≡ seen a
+  pub parts_open : v < u → (sight (off t u) ≡ opens) × (sight (on t u) ≡ opens)
   unfolding sight
-  off_here e = let l = le-ltb u v (omega arith) in let q = eq-eqb u v e in subst (λ z. sight (off z u) ≡ seen a) (sym is) (rw (l, q))
+  parts_open h =
+      let l = le-ltb u v (omega arith) in
+      let q = ne_eqb u v (omega arith) in
+      subst (λ z. (sight (off z u) ≡ opens) × (sight (on z u) ≡ opens)) (sym is) (rw (l, q), rw (l, q))
 
-  pub off_opens : v ≤ u → (u ≡ v → ⊥) → sight (off t u) ≡ opens
-  unfolding sight
-  off_opens h n = let l = le-ltb u v h in let q = ne_eqb u v n in subst (λ z. sight (off z u) ≡ opens) (sym is) (rw (l, q))
-
-  pub on_before : u < v → sight (on t u) ≡ seen none
-  unfolding sight
-  on_before h = let l = lt-ltb u v h in subst (λ z. sight (on z u) ≡ seen none) (sym is) (rw l)
-
-  pub on_here : u ≡ v → sight (on t u) ≡ seen b
-  unfolding sight
-  on_here e = let l = le-ltb u v (omega arith) in let q = eq-eqb u v e in subst (λ z. sight (on z u) ≡ seen b) (sym is) (rw (l, q))
-
-  pub on_opens : v ≤ u → (u ≡ v → ⊥) → sight (on t u) ≡ opens
-  unfolding sight
-  on_opens h n = let l = le-ltb u v h in let q = ne_eqb u v n in subst (λ z. sight (on z u) ≡ opens) (sym is) (rw (l, q))
+pub ruleset sees = (fails, seen_by, seen_open, is_never, is_ever, is_nodal, none_denotes, always_denotes, none_either, either_none, always_either, either_always, either_same, either_opens, none_both, both_none, always_both, both_always, both_same, both_opens, none_less, less_none, less_always, always_less, less_same, less_opens, turn_none, turn_always, turn_opens)

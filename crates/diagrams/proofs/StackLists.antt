@@ -1,22 +1,20 @@
 -- The entries of a stack, the newest first.
-use Rattle.std.proofs.Common.{◌≡◌, ℕ, ◌+◌, ◌-◌, ◌<◌, ◌≤◌, List, [], ◌∷◌, reverse, length, get_or, take, set, sym, ap, ◌∙◌, arith, length-take}
-use mathlib.Core.List.{reverse-append}
-use lib.ListN.{length-reverse}
-use Rattle.std.proofs.lemmas.List.{take_more, take_more_set}
-use Rattle.diagrams.specs.declared.stack.Stack.{Stack}
+use Rattle.std.proofs.Common.{◌≡◌, ◌<◌, true, false, List, [], ◌∷◌, ◌++◌, refl, ap, ◌∙◌, reverse, length, arith}
+use Rattle.std.proofs.lemmas.Bool.{false≢true}
+use Rattle.std.proofs.lemmas.List.{reverse-append, length-reverse}
+use Rattle.arrayvec.specs.ArrayVec.{ArrayVec, array_vec_len}
 use Rattle.diagrams.specs.Stacks.{stacked}
 
-module _ {X : Type 0} (xs : List X) (d : ℕ) where
-  newest_length : d ≤ length xs → length (reverse (take d xs)) ≡ d
-  newest_length h = simp (length-reverse, length-take) (omega arith)
+pub stacked_more : {T : Type 0} (s s' : ArrayVec T) (newest : T) → s'.items ≡ s.items ++ (newest ∷ []) → stacked s' ≡ newest ∷ stacked s
+stacked_more s s' newest e = ap reverse e ∙ reverse-append s.items (newest ∷ [])
 
-  pub newest_pushed : (x : X) → d < length xs → reverse (take (d + 1) (set xs d x)) ≡ x ∷ reverse (take d xs)
-  newest_pushed x h = ap reverse (take_more_set xs d x h) ∙ reverse-append (take d xs) (x ∷ [])
+pub stacked_length : {T : Type 0} (s : ArrayVec T) → length (stacked s) ≡ array_vec_len s
+stacked_length s = length-reverse s.items
 
-  pub newest_popped : (x : X) → (d ≡ 0 → ⊥) → d ≤ length xs → reverse (take d xs) ≡ get_or xs (d - 1) x ∷ reverse (take (d - 1) xs)
-  newest_popped x n h =
-      let e : d - 1 + 1 ≡ d = omega arith in
-      ap (λ k. reverse (take k xs)) (sym e) ∙ ap reverse (take_more xs (d - 1) x (omega arith)) ∙ reverse-append (take (d - 1) xs) (get_or xs (d - 1) x ∷ [])
+module _ {T : Type 0} where
+  none_listed : (xs : List T) → (0 < length xs → false ≡ true) → reverse xs ≡ []
+  none_listed [] e = refl
+  none_listed (x ∷ xs) e = absurd (false≢true (e (omega arith)))
 
-pub stacked_length : {T : Type 0} → (s : Stack T) → length (stacked s) ≡ s.depth
-stacked_length s = newest_length s.entries s.depth (omega (arith, s.within, s.size))
+  pub stacked_none : (s : ArrayVec T) → (0 < array_vec_len s → false ≡ true) → stacked s ≡ []
+  stacked_none s e = none_listed s.items e

@@ -15,6 +15,7 @@ use Rattle.families.specs.Outcomes.{made, outcome}
 use Rattle.families.specs.Meanings.{GoodAsk}
 use Rattle.families.proofs.Solving.{good_ask_member}
 use Rattle.diagrams.specs.declared.frames.Wait.{Wait}
+use Rattle.diagrams.specs.declared.node.Node.{Node}
 use Rattle.diagrams.specs.declared.solve.Step.TheVariants.{Ask as Asking, Answer as Answering}
 use Rattle.diagrams.specs.declared.solve.Pending.{Pending}
 use Rattle.diagrams.specs.Asking.{Asks, ask_at}
@@ -96,40 +97,39 @@ module _ (ts : List Tree) (T T' : Ask → Type 0) (more : (r : Ask) → T r → 
       (step_waits q question a.asks good unseen w xs ys 8 (script q) (put_deep ts question (length xs) a unseen).0 (omega arith) (left_begins ts T' q good unseen) waits e)
 
 -- the answer to q is to be built
-module _ (ts : List Tree) (T : Ask → Type 0) (q : Ask) (v : ℕ) (low high : Diagram) (s : Script) (left : Left ts T q s) (b : Builds ts v low high s) where
-  rest : Left ts T q (builds v b.low_tree b.high_tree)
+module _ (ts : List Tree) (T : Ask → Type 0) (q : Ask) (k : Node) (s : Script) (left : Left ts T q s) (b : Builds ts k s) where
+  rest : Left ts T q (builds k.member b.low_tree b.high_tree)
   rest = subst (Left ts T q) b.is left
 
-  pub builds_fitting : Fitting ts v low high
+  pub builds_fitting : Fitting ts k
   builds_fitting = record {
-    low_held = b.low_is.within;
-    high_held = b.high_is.within;
-    good = subst (Good 1) (sym (build_is ts v low high b.low_tree b.high_tree b.low_is b.high_is)) (built_good ts T q v b.low_tree b.high_tree rest);
+    names = (b.low_is.within, b.high_is.within);
+    good = subst (Good 1) (sym (build_is ts k.member k.low k.high b.low_tree b.high_tree b.low_is b.high_is)) (built_good ts T q k.member b.low_tree b.high_tree rest);
   }
 
-  module _ (ts' : List Tree) (d : Diagram) (j : Made ts (build v b.low_tree b.high_tree) (made v b.low_tree b.high_tree) d ts') where
+  module _ (ts' : List Tree) (d : Diagram) (j : Made ts (build k.member b.low_tree b.high_tree) (made k.member b.low_tree b.high_tree) d ts') where
     pub built_settled : Settled ts' d q
     built_settled = record {
-      denotes = subst (Denotes ts' d) (built_answer ts T q v b.low_tree b.high_tree rest) j.denotes;
-      held = λ t m. within_joined ts (made v b.low_tree b.high_tree) ts' (kept_within ts ts' j.kept) j.there t (built_cover ts T q v b.low_tree b.high_tree rest t m);
+      denotes = subst (Denotes ts' d) (built_answer ts T q k.member b.low_tree b.high_tree rest) j.denotes;
+      held = λ t m. within_joined ts (made k.member b.low_tree b.high_tree) ts' (kept_within ts ts' j.kept) j.there t (built_cover ts T q k.member b.low_tree b.high_tree rest t m);
     }
 
     pub built_grows : Grows ts ts' q
     built_grows = record {
       kept = j.kept;
-      only = λ t m. within_right ts (made v b.low_tree b.high_tree) (outcome q).built (built_part ts T q v b.low_tree b.high_tree rest) t (j.only t m);
+      only = λ t m. within_right ts (made k.member b.low_tree b.high_tree) (outcome q).built (built_part ts T q k.member b.low_tree b.high_tree rest) t (j.only t m);
     }
 
   pub built_tells : (r : Ask) → r ∈ (outcome q).asked → (r ≡ q) ⊎ T r
-  built_tells r m = built_others ts T q v b.low_tree b.high_tree rest r m
+  built_tells r m = built_others ts T q k.member b.low_tree b.high_tree rest r m
 
-  pub built_lacks : (cap : ℕ) (ts' : List Tree) → Lacks cap ts (made v b.low_tree b.high_tree) ts' → Lacks cap ts (outcome q).built ts'
-  built_lacks cap ts' k = record {
-    full = k.full;
-    missing = k.missing;
-    among = built_part ts T q v b.low_tree b.high_tree rest k.missing k.among;
-    absent = k.absent;
-    same = k.same;
+  pub built_lacks : (cap : ℕ) (ts' : List Tree) → Lacks cap ts (made k.member b.low_tree b.high_tree) ts' → Lacks cap ts (outcome q).built ts'
+  built_lacks cap ts' l = record {
+    full = l.full;
+    missing = l.missing;
+    among = built_part ts T q k.member b.low_tree b.high_tree rest l.missing l.among;
+    absent = l.absent;
+    same = l.same;
   }
 
 -- nothing changes

@@ -16,7 +16,7 @@ use Rattle.diagrams.specs.Memory.{trees}
 use Rattle.diagrams.proofs.Memories.{denotes_once}
 
 -- a question of trees by its kind, its operands and its member
-abbrev kind : Ask → ℕ
+abbrev pub kind : Ask → ℕ
 kind (either f g) = 0
 kind (both f g) = 1
 kind (less f g) = 2
@@ -24,7 +24,7 @@ kind (turn f) = 3
 kind (off f u) = 4
 kind (on f u) = 5
 
-abbrev left : Ask → Tree
+abbrev pub left : Ask → Tree
 left (either f g) = f
 left (both f g) = f
 left (less f g) = f
@@ -32,7 +32,7 @@ left (turn f) = f
 left (off f u) = f
 left (on f u) = f
 
-abbrev right : Ask → Tree
+abbrev pub right : Ask → Tree
 right (either f g) = g
 right (both f g) = g
 right (less f g) = g
@@ -40,7 +40,7 @@ right (turn f) = none
 right (off f u) = none
 right (on f u) = none
 
-abbrev member : Ask → ℕ
+abbrev pub member : Ask → ℕ
 member (either f g) = 0
 member (both f g) = 0
 member (less f g) = 0

@@ -1,6 +1,6 @@
 -- The work on one question, from its first step to its answer.
-use Rattle.std.proofs.Common.{◌≡◌, ℕ, ◌<◌, ◌≤◌, true, List, [], ◌∷◌, ◌++◌, length, sym, refl, subst, arith}
-use Rattle.interning.specs.Distinct.{Within, Exact, NoRepeat}
+use Rattle.std.proofs.Common.{◌≡◌, ℕ, ◌<◌, ◌≤◌, List, [], ◌∷◌, ◌++◌, length, sym, refl, subst, arith}
+use Rattle.interning.specs.Distinct.{Within, NoRepeat}
 use Rattle.interning.proofs.Distinct.{counts}
 use Rattle.interning.proofs.Members.{in_right}
 use Rattle.memos.specs.declared.diagram.Diagram.{Diagram}
@@ -10,28 +10,25 @@ use Rattle.families.specs.Trees.{Tree, equal}
 use Rattle.families.specs.Questions.{Ask}
 use Rattle.families.specs.Outcomes.{outcome}
 use Rattle.families.specs.Meanings.{GoodAsk}
-use Rattle.families.proofs.Sights.{equal_is, equal_self}
 use Rattle.diagrams.specs.declared.solve.Step.{Step}
 use Rattle.diagrams.specs.declared.solve.Step.TheVariants.{Ask as Asking, Answer as Answering}
 use Rattle.diagrams.specs.declared.solve.Pending.{Pending}
 use Rattle.diagrams.specs.Asking.{Asks, ask_at}
 use Rattle.diagrams.specs.Building.{Lacks}
-use Rattle.diagrams.specs.Solving.{Arrives, Closed, CountsOn, Grows, Chain, Due, Puttable, Runs, Tally, Tallied, Works, Steps, load, needed, told}
+use Rattle.diagrams.specs.Solving.{AllRight, Arrives, Closed, CountsOn, Grows, Chain, Due, Puttable, Runs, Tally, Tallied, Works, Steps, load, needed, told}
+use Rattle.diagrams.proofs.Merely.{trees_exact}
 use Rattle.diagrams.proofs.Settling.{within_joined, kept_trans, kept_within}
 use Rattle.diagrams.proofs.Stepping.{chain_part, grows_none}
 use Rattle.diagrams.proofs.Tallying.{tally_done, tally_start}
 
-equal_exact : Exact equal
-equal_exact s t = (equal_is s t, λ e. subst (λ z. equal s z ≡ true) e (equal_self s))
-
-pub works_start : (keeps : Type 0) (ts : List Tree) (ns : List Note) (question : Question) (xs : List Pending) → xs ≡ [] → ((q : Ask) × Asks ts question q × GoodAsk 1 q)
-    → (keeps → Closed ts ns) → Works keeps ts ns ts ns (Asking question) xs 0 (Asking question)
-works_start keeps ts ns question xs e h closed = record {
+pub works_start : (keeps : Type 0) (ts : List Tree) (ns : List Note) (question : Question) (xs : List Pending) (n : ℕ) → xs ≡ [] → n ≡ 0 → ((q : Ask) × Asks ts question q × GoodAsk 1 q)
+    → (keeps → Closed ts ns) → Works keeps ts ns ts ns (Asking question) xs n (Asking question)
+works_start keeps ts ns question xs n e none h closed = record {
   final = h.0;
   starts = h.1;
   grows = grows_none ts ts h.0 refl;
   runs = subst (λ ys. Runs ts (told keeps ts ns) h.0 ys (Asking question)) (sym e) (record { this = h.0; from = 1; asks = h.1; good = h.2; deep = omega arith }, refl);
-  tally = λ k. tally_start ts ns h.0 xs e (closed k);
+  tally = λ k. subst (Tally ts ns ts ns h.0 xs) (sym none) (tally_start ts ns h.0 xs e (closed k));
 }
 
 module _ (keeps : Type 0) (ts : List Tree) (ns : List Note) (ts' : List Tree) (ns' : List Note) (first : Step) (ys : List Pending) (n : ℕ) (step : Step)
@@ -77,7 +74,7 @@ module _ (keeps : Type 0) (ts : List Tree) (ns : List Note) (ts' : List Tree) (n
     pub works_enough : ys ≡ [] → (cap : ℕ) → NoRepeat ts' → length ts' ≤ cap → needed ts w.final ≤ cap
     works_enough i cap once few =
         let all : Within (ts ++ (outcome w.final).built) ts' = within_joined ts (outcome w.final).built ts' (kept_within ts ts' w.grows.kept) (works_ended i).settled.held in
-        let counted = counts Tree equal equal_exact ts' (ts ++ (outcome w.final).built) once w.grows.only in
+        let counted = counts Tree equal trees_exact ts' (ts ++ (outcome w.final).built) once w.grows.only in
         omega (arith, counted.all all)
 
     -- x is the newest open question
@@ -100,10 +97,10 @@ module _ (keeps : Type 0) (ts : List Tree) (ns : List Note) (ts' : List Tree) (n
         only = λ t m. within_joined ts' (outcome (ask_at ts' x.question)).built (ts ++ (outcome w.final).built) w.grows.only inside t (g.only t m);
       }
 
-      pub works_taken : (keeps' : Type 0) (ts'' : List Tree) (ns'' : List Note) (zs : List Pending) (k : ℕ) (next : Step) → (keeps' → keeps)
-          → CountsOn keeps keeps' ts' ns' ts'' ns'' (ask_at ts' x.question) xs (x ∷ xs) zs n n → Grows ts' ts'' (ask_at ts' x.question)
-          → Steps ts' (told keeps ts' ns') ts'' (told keeps' ts'' ns'') (ask_at ts' x.question) xs zs k next → Works keeps' ts ns ts'' ns'' first zs n next
-      works_taken keeps' ts'' ns'' zs k next already counts g s = record {
+      pub works_taken : (keeps' : Type 0) (ts'' : List Tree) (ns'' : List Note) (zs : List Pending) (n' k : ℕ) (next : Step) → (keeps' → keeps)
+          → CountsOn keeps keeps' ts' ns' ts'' ns'' (ask_at ts' x.question) xs (x ∷ xs) zs n n' → Grows ts' ts'' (ask_at ts' x.question)
+          → Steps ts' (told keeps ts' ns') ts'' (told keeps' ts'' ns'') (ask_at ts' x.question) xs zs k next → Works keeps' ts ns ts'' ns'' first zs n' next
+      works_taken keeps' ts'' ns'' zs n' k next already counts g s = record {
         final = w.final;
         starts = w.starts;
         grows = works_grown ts'' g;
@@ -117,6 +114,17 @@ module _ (keeps : Type 0) (ts : List Tree) (ns : List Note) (ts' : List Tree) (n
       -- there is no place for what is built
       pub works_short : (cap : ℕ) (ts'' : List Tree) → NoRepeat ts' → Lacks cap ts' (outcome (ask_at ts' x.question)).built ts'' → cap < needed ts w.final
       works_short cap ts'' once k =
-          let counted = counts Tree equal equal_exact ts' (ts ++ (outcome w.final).built) once w.grows.only in
+          let counted = counts Tree equal trees_exact ts' (ts ++ (outcome w.final).built) once w.grows.only in
           let full = k.full in
           omega (arith, counted.lacks k.missing (inside k.missing k.among) k.absent)
+
+-- the same at equal trees and notes
+module _ (ts ts' : List Tree) (ns ns' : List Note) (e : ts' ≡ ts) (f : ns' ≡ ns) where
+  pub right_at : AllRight ts ns → AllRight ts' ns'
+  right_at h = subst (λ us. AllRight us ns') (sym e) (subst (AllRight ts) (sym f) h)
+
+  pub closed_at : Closed ts ns → Closed ts' ns'
+  closed_at h = subst (λ us. Closed us ns') (sym e) (subst (Closed ts) (sym f) h)
+
+pub grows_at : (us ts ts' : List Tree) (q : Ask) → ts' ≡ ts → Grows us ts q → Grows us ts' q
+grows_at us ts ts' q e h = subst (λ vs. Grows us vs q) (sym e) h

@@ -1,5 +1,5 @@
 -- Diagrams over the trees of a node memory, and how one is built.
-use Rattle.std.specs.Prelude.{◌≡◌, ℕ, ◌≤◌, true, cond, ◌||◌, List, [], ◌∷◌, ◌++◌, length, Some, None, Ok, Err, Option, Result}
+use Rattle.std.specs.Prelude.{◌≡◌, ℕ, ◌≤◌, true, cond, ◌||◌, List, [], ◌∷◌, ◌++◌, length, Some, None, Option, Result, MatchResult}
 use Rattle.interning.specs.declared.interner.Full.{Full}
 use Rattle.interning.specs.Distinct.{◌∈◌, Within}
 use Rattle.interning.specs.Places.{Kept, Read}
@@ -19,11 +19,10 @@ pub record Denotes (ts : List Tree) (d : Diagram) (t : Tree) : Type 0 where
   pub within : Below (length ts) (seen d)
   pub is : tree_at ts d ≡ t
 
--- low and high are held, and what is built over them is the tree of a family
-pub record Fitting (ts : List Tree) (v : ℕ) (low high : Diagram) : Type 0 where
-  pub low_held : Below (length ts) (seen low)
-  pub high_held : Below (length ts) (seen high)
-  pub good : Good 1 (build v (tree_at ts low) (tree_at ts high))
+-- the node's parts are held, and what is built over them is the tree of a family
+pub record Fitting (ts : List Tree) (k : Node) : Type 0 where
+  pub names : NamesBelow (length ts) k
+  pub good : Good 1 (build k.member (tree_at ts k.low) (tree_at ts k.high))
 
 -- d has the tree t, the nodes us are held, every place keeps its tree, and nothing else is added
 pub record Made (ts : List Tree) (t : Tree) (us : List Tree) (d : Diagram) (ts' : List Tree) : Type 0 where
@@ -42,8 +41,7 @@ pub record Lacks (cap : ℕ) (ts us ts' : List Tree) : Type 0 where
 
 -- From the trees ts, with cap places, the tree t is made with the nodes us, or one of these lacks a place.
 abbrev pub Makes : ℕ → List Tree → Tree → List Tree → Result Diagram Full → List Tree → Type 0
-Makes cap ts t us (Ok d) ts' = Made ts t us d ts'
-Makes cap ts t us (Err e) ts' = Lacks cap ts us ts'
+Makes cap ts t us r ts' = MatchResult r (λ d. Made ts t us d ts') (λ _. Lacks cap ts us ts')
 
 -- the tree over l and h is made: low where high is none, else the one node
 abbrev pub Joins : ℕ → List Tree → ℕ → Tree → Tree → Result Diagram Full → List Tree → Type 0

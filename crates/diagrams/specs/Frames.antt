@@ -1,12 +1,13 @@
 -- Open questions, and what they still do.
 use Rattle.std.specs.Prelude.{◌≡◌, ℕ, ◌<◌, List, length}
-use Rattle.families.specs.Questions.{Ask, either, both, less, turn, off, on, low_at, high_at, smaller}
+use Rattle.families.specs.Questions.{Ask, either, both, less, turn, low_at, high_at, smaller}
 use Rattle.families.specs.Scripts.{Script, builds, ask}
 use Rattle.families.specs.Trees.{Tree}
 use Rattle.memos.specs.declared.diagram.Diagram.{Diagram}
+use Rattle.memos.specs.declared.question.Question.{Question}
 use Rattle.memos.specs.Diagrams.{seen}
 use Rattle.diagrams.specs.declared.frames.Frame.{Frame}
-use Rattle.diagrams.specs.declared.frames.Frame.TheVariants.{EitherLow, Both as InBoth, Less as InLess, Turn as InTurn, OffLow, OnLow, Highs, High}
+use Rattle.diagrams.specs.declared.frames.Frame.TheVariants.{EitherLow, Both as InBoth, Less as InLess, Turn as InTurn, Low, Highs, High}
 use Rattle.diagrams.specs.declared.frames.BothFrame.TheVariants.{Low as BothLow, HighHigh as BothHighHigh, HighLow as BothHighLow, Join as BothJoin, LowHigh as BothLowHigh}
 use Rattle.diagrams.specs.declared.frames.LessFrame.TheVariants.{Low as LessLow, High as LessHigh}
 use Rattle.diagrams.specs.declared.frames.TurnFrame.TheVariants.{Low as TurnLow, High as TurnHigh, Both as TurnBoth}
@@ -14,7 +15,8 @@ use Rattle.diagrams.specs.declared.frames.Halves.{Halves}
 use Rattle.diagrams.specs.declared.frames.Next.{Next}
 use Rattle.diagrams.specs.declared.frames.Next.TheVariants.{Wait as Waiting, Done}
 use Rattle.diagrams.specs.declared.frames.Wait.{Wait}
-use Rattle.diagrams.specs.Asking.{Asks}
+use Rattle.diagrams.specs.declared.node.Node.{Node}
+use Rattle.diagrams.specs.Asking.{Asks, OperandsHeld, ask_at}
 use Rattle.diagrams.specs.Building.{Denotes}
 use Rattle.diagrams.specs.NodeKeys.{Below, tree_at}
 
@@ -39,8 +41,7 @@ FrameHeld ts (InLess (LessHigh v low g0)) = Held ts low × Held ts g0
 FrameHeld ts (InTurn (TurnLow v f1)) = Held ts f1
 FrameHeld ts (InTurn (TurnHigh v turned)) = Held ts turned
 FrameHeld ts (InTurn (TurnBoth v turned)) = Held ts turned
-FrameHeld ts (OffLow v f1 away) = Held ts f1
-FrameHeld ts (OnLow v f1 away) = Held ts f1
+FrameHeld ts (Low v high) = OperandsHeld ts high
 FrameHeld ts (Highs v low) = Held ts low
 FrameHeld ts (High v low) = Held ts low
 
@@ -99,11 +100,8 @@ continuation ts (InTurn (TurnHigh v turned)) b =
 continuation ts (InTurn (TurnBoth v turned)) l =
     ask (less (tree_at ts turned) l) λ h.
     builds v l h
-continuation ts (OffLow v f1 away) l =
-    ask (off (tree_at ts f1) away) λ h.
-    builds v l h
-continuation ts (OnLow v f1 away) l =
-    ask (on (tree_at ts f1) away) λ h.
+continuation ts (Low v high) l =
+    ask (ask_at ts high) λ h.
     builds v l h
 continuation ts (Highs v low) x =
     ask (less x (tree_at ts low)) λ h.
@@ -123,8 +121,7 @@ ahead (InLess (LessHigh v low g0)) = 1
 ahead (InTurn (TurnLow v f1)) = 3
 ahead (InTurn (TurnHigh v turned)) = 2
 ahead (InTurn (TurnBoth v turned)) = 1
-ahead (OffLow v f1 away) = 1
-ahead (OnLow v f1 away) = 1
+ahead (Low v high) = 1
 ahead (Highs v low) = 1
 ahead (High v low) = 0
 
@@ -142,17 +139,21 @@ pub record Waits (ts : List Tree) (w : Wait) (s : Script) : Type 0 where
   pub awaits : Awaits ts w.frame then
 
 -- what is to be built
-pub record Builds (ts : List Tree) (v : ℕ) (low high : Diagram) (s : Script) : Type 0 where
+pub record Builds (ts : List Tree) (k : Node) (s : Script) : Type 0 where
   pub low_tree : Tree
   pub high_tree : Tree
-  pub is : s ≡ builds v low_tree high_tree
-  pub low_is : Denotes ts low low_tree
-  pub high_is : Denotes ts high high_tree
+  pub is : s ≡ builds k.member low_tree high_tree
+  pub low_is : Denotes ts k.low low_tree
+  pub high_is : Denotes ts k.high high_tree
 
 -- what comes next is the next of the script
 abbrev pub Continues : List Tree → Next → Script → Type 0
 Continues ts (Waiting w) s = Waits ts w s
-Continues ts (Done v l h) s = Builds ts v l h s
+Continues ts (Done k) s = Builds ts k s
+
+-- the question that is made of a diagram asks q of its tree
+abbrev pub AsksAs : List Tree → (Diagram → Question → Type 0) → (Tree → Ask) → Type 0
+AsksAs ts makes q = (d : Diagram) (question : Question) → makes d question → (t : Tree) → Denotes ts d t → Asks ts question (q t)
 
 -- the parts of two operands at the smaller of their top members
 pub record Halved (ts : List Tree) (r : Halves) (s t : Tree) : Type 0 where
@@ -165,4 +166,4 @@ pub record Halved (ts : List Tree) (r : Halves) (s t : Tree) : Type 0 where
 -- what comes next waits for fewer than n further answers
 abbrev pub Fewer : Next → ℕ → Type 0
 Fewer (Waiting w) n = ahead w.frame < n
-Fewer (Done v l h) n = Unit {0}
+Fewer (Done k) n = Unit {0}

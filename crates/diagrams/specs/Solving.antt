@@ -1,5 +1,5 @@
 -- A question worked out over a node memory: right notes, open questions that wait for one another, and the steps of the work.
-use Rattle.std.specs.Prelude.{◌≡◌, ℕ, zero, suc, ◌+◌, ◌-◌, ◌*◌, ◌^◌, ◌<◌, ◌≤◌, min, ◌⊎◌, List, [], ◌∷◌, ◌++◌, length, Ok, Err, Result}
+use Rattle.std.specs.Prelude.{◌≡◌, ℕ, zero, suc, ◌+◌, ◌-◌, ◌*◌, ◌^◌, ◌<◌, ◌≤◌, min, ◌⊎◌, List, [], ◌∷◌, ◌++◌, length, Result, MatchResult, OnOk}
 use Rattle.interning.specs.declared.interner.Full.{Full}
 use Rattle.interning.specs.Distinct.{◌∈◌, Within, NoRepeat, distinct}
 use Rattle.interning.specs.Places.{Kept}
@@ -144,8 +144,7 @@ pub record Tallied (ts : List Tree) (ns : List Note) (ts' : List Tree) (ns' : Li
 
 -- the count, where q was answered
 abbrev pub TalliedOut : List Tree → List Note → List Tree → List Note → Ask → Result Diagram Full → ℕ → Type 0
-TalliedOut ts ns ts' ns' q (Ok d) opened = Tallied ts ns ts' ns' (outcome q).asked opened
-TalliedOut ts ns ts' ns' q (Err e) opened = Unit {0}
+TalliedOut ts ns ts' ns' q r opened = OnOk r (Tallied ts ns ts' ns' (outcome q).asked opened)
 
 -- From the trees ts, the notes ns and the first step the work has come to the trees ts' and the notes ns', with the open
 -- questions xs, the count of those that were opened, and the next step.
@@ -178,8 +177,7 @@ pub record Steps (ts : List Tree) (T : Ask → Type 0) (ts' : List Tree) (T' : A
 
 -- An answer is taken to the open question q: the work goes on, or a tree that q builds lacks a place.
 abbrev pub Takes : ℕ → List Tree → (Ask → Type 0) → List Tree → (Ask → Type 0) → Ask → List Pending → List Pending → ℕ → Result Step Full → Type 0
-Takes cap ts T ts' T' q xs ys n (Ok step) = Steps ts T ts' T' q xs ys n step
-Takes cap ts T ts' T' q xs ys n (Err e) = Lacks cap ts (outcome q).built ts'
+Takes cap ts T ts' T' q xs ys n r = MatchResult r (Steps ts T ts' T' q xs ys n) (λ _. Lacks cap ts (outcome q).built ts')
 
 -- how many places it takes to hold the trees ts and all that q builds
 abbrev pub needed : List Tree → Ask → ℕ
@@ -187,5 +185,4 @@ needed ts q = length (distinct equal (ts ++ (outcome q).built))
 
 -- q is answered with all that it builds, exactly where there are places enough for what was held and what q builds
 abbrev pub WorkedOut : ℕ → List Tree → List Tree → Ask → Result Diagram Full → Type 0
-WorkedOut cap ts ts' q (Ok d) = Settled ts' d q × (needed ts q ≤ cap)
-WorkedOut cap ts ts' q (Err e) = cap < needed ts q
+WorkedOut cap ts ts' q r = MatchResult r (λ d. Settled ts' d q × (needed ts q ≤ cap)) (λ _. cap < needed ts q)

@@ -9,9 +9,10 @@ ghost use Rattle.diagrams.specs.Building.{Denotes};
 ghost use Rattle.diagrams.specs.Frames.{Awaits, Continues, Fewer, Waits, ahead};
 ghost use Rattle.diagrams.specs.Memory.{trees};
 
-use self::begins::{begin_both, begin_either, begin_less, begin_off, begin_on, begin_turn};
+use self::begins::{begin_both, begin_either, begin_less, begin_parts, begin_turn};
 use self::resumes::{resume_both, resume_less, resume_turn};
-use self::sights::{sight_both, sight_either, sight_less, sight_off, sight_on, sight_turn};
+use self::sights::{sight_both, sight_either, sight_less, sight_parts, sight_turn};
+use crate::node::Node;
 use crate::nodes::NodeMemory;
 use memos::diagram::Diagram;
 use memos::question::Question;
@@ -32,6 +33,7 @@ pub struct Halves {
 
 // An open question by the answer that it waits for, with the parts of its operands and the answers that it still needs.
 // A variant's name says the kind of question, or the parts that the answer is on.
+// Each names its member and answers itself: a struct for the pair would make every place that takes one longer.
 #[derive(Clone, Copy)]
 pub enum Frame {
     EitherLow {
@@ -42,15 +44,10 @@ pub enum Frame {
     Both(BothFrame),
     Less(LessFrame),
     Turn(TurnFrame),
-    OffLow {
+    // the low part, after which `high` is asked on the high part
+    Low {
         member: u8,
-        f1: Diagram,
-        away: u8,
-    },
-    OnLow {
-        member: u8,
-        f1: Diagram,
-        away: u8,
+        high: Question,
     },
     // all groups with the member, from which those are to go that contain a group of low
     Highs {
@@ -126,8 +123,8 @@ pub struct Wait {
 #[derive(Clone, Copy)]
 pub enum Next {
     Wait(Wait),
-    // its answer is to be built: member, low, high
-    Done(u8, Diagram, Diagram),
+    // its answer is to be built over this node
+    Done(Node),
 }
 
 // The answer to a question at sight, or none where it has to be opened.
@@ -139,8 +136,8 @@ pub(crate) fn sight(nodes: &NodeMemory<'_>, question: Question) -> Option<Diagra
         Question::Both(f, g) => sight_both(nodes, f, g),
         Question::Less(f, g) => sight_less(nodes, f, g),
         Question::Turn(f) => sight_turn(nodes, f),
-        Question::Off(f, away) => sight_off(nodes, f, away),
-        Question::On(f, away) => sight_on(nodes, f, away),
+        Question::Off(f, away) => sight_parts(nodes, f, away).map(|parts| parts.low),
+        Question::On(f, away) => sight_parts(nodes, f, away).map(|parts| parts.high),
     }
 }
 
@@ -154,8 +151,8 @@ pub(crate) fn begin(nodes: &NodeMemory<'_>, question: Question) -> Wait
         Question::Both(f, g) => begin_both(nodes, f, g),
         Question::Less(f, g) => begin_less(nodes, f, g),
         Question::Turn(f) => begin_turn(nodes, f),
-        Question::Off(f, away) => begin_off(nodes, f, away),
-        Question::On(f, away) => begin_on(nodes, f, away),
+        Question::Off(f, away) => begin_parts(nodes, f, |part| Question::Off(part, away)),
+        Question::On(f, away) => begin_parts(nodes, f, |part| Question::On(part, away)),
     }
 }
 
@@ -175,24 +172,21 @@ pub(crate) fn resume(frame: Frame, answer: Diagram) -> Next
         Frame::Both(both) => resume_both(both, answer),
         Frame::Less(less) => resume_less(less, answer),
         Frame::Turn(turn) => resume_turn(turn, answer),
-        Frame::OffLow { member, f1, away } => Next::Wait(Wait {
+        Frame::Low { member, high } => Next::Wait(Wait {
             frame: Frame::High {
                 member,
                 low: answer,
             },
-            question: Question::Off(f1, away),
-        }),
-        Frame::OnLow { member, f1, away } => Next::Wait(Wait {
-            frame: Frame::High {
-                member,
-                low: answer,
-            },
-            question: Question::On(f1, away),
+            question: high,
         }),
         Frame::Highs { member, low } => Next::Wait(Wait {
             frame: Frame::High { member, low },
             question: Question::Less(answer, low),
         }),
-        Frame::High { member, low } => Next::Done(member, low, answer),
+        Frame::High { member, low } => Next::Done(Node {
+            member,
+            low,
+            high: answer,
+        }),
     }
 }

@@ -5,4 +5,3 @@ mod frames;
 pub mod node;
 pub mod nodes;
 pub mod solve;
-mod stack;

@@ -8,6 +8,7 @@ ghost use Rattle.families.specs.Good.{Proper};
 ghost use Rattle.diagrams.specs.Collecting.{blank};
 ghost use Rattle.diagrams.specs.NodeKeys.{NamesBelow, node_tree};
 
+pub use self::read::Parts;
 use crate::node::Node;
 use interning::interner::Interner;
 use memos::diagram::Diagram;

@@ -12,7 +12,7 @@ ghost use Rattle.diagrams.specs.Stacks.{stacked};
 use crate::frames;
 use crate::frames::{Frame, Next};
 use crate::nodes::NodeMemory;
-use crate::stack::Stack;
+use arrayvec::ArrayVec;
 use interning::interner::Full;
 use memos::diagram::Diagram;
 use memos::memo::Memo;
@@ -32,6 +32,19 @@ pub(crate) struct Pending {
     pub(crate) frame: Frame,
 }
 
+// What fills the idle places of the stack.
+impl Default for Pending {
+    fn default() -> Pending {
+        Pending {
+            question: Question::Turn(Diagram::none()),
+            frame: Frame::High {
+                member: 0,
+                low: Diagram::none(),
+            },
+        }
+    }
+}
+
 // What is done next: a question is asked, or an answer is taken to the newest open question.
 #[derive(Clone, Copy)]
 enum Step {
@@ -39,83 +52,97 @@ enum Step {
     Answer(Diagram),
 }
 
-// No open question; the places are idle.
-fn no_open(question: Question) -> Stack<Pending>
-    ensures { stacked result ≡ [] }
-{
-    Stack::empty(Pending {
-        question,
-        frame: Frame::High {
-            member: 0,
-            low: Diagram::none(),
-        },
-    })
+// The work on one question: the memory, the memo, the open questions, and how many were opened.
+#[derive(Drop)]
+struct Solver<'n, 'a, 'm, M: Memo> {
+    nodes: &'n mut NodeMemory<'a>,
+    memo: &'m mut M,
+    stack: ArrayVec<Pending, 48>,
+    opened: u64,
+    ghost right: { ∥ AllRight (trees nodes.now) (M.Memo.notes memo.now) ∥₁ },
+    ghost closed: { ∥ (M.Memo.keeps memo.now → Closed (trees nodes.now) (M.Memo.notes memo.now)) ∥₁ },
 }
 
-// Asks a question: it is answered at sight or by a note, or else it is opened.
-fn put<M: Memo>(
-    nodes: &NodeMemory<'_>,
-    memo: &mut M,
-    stack: &mut Stack<Pending>,
-    opened: &mut u64,
-    question: Question,
-) -> Step
-    requires notes { AllRight (trees nodes.now) (M.Memo.notes memo.old) }
-    requires closed { M.Memo.keeps memo.old → Closed (trees nodes.now) (M.Memo.notes memo.old) }
-    requires puttable { Puttable (trees nodes.now) (length (stacked stack.old)) question }
-    ensures notes { M.Memo.notes memo.new ≡ M.Memo.notes memo.old }
-    ensures counts { CountsOn (M.Memo.keeps memo.old) (M.Memo.keeps memo.new) (trees nodes.now) (M.Memo.notes memo.old) (trees nodes.now) (M.Memo.notes memo.new) (ask_at (trees nodes.now) question) (stacked stack.old) (stacked stack.old) (stacked stack.new) opened.old opened.new }
-    ensures already { M.Memo.keeps memo.new → M.Memo.keeps memo.old }
-    ensures steps { Steps (trees nodes.now) (told (M.Memo.keeps memo.old) (trees nodes.now) (M.Memo.notes memo.old)) (trees nodes.now) (told (M.Memo.keeps memo.new) (trees nodes.now) (M.Memo.notes memo.new)) (ask_at (trees nodes.now) question) (stacked stack.old) (stacked stack.new) (load (stacked stack.old) (Asking question)) result }
-{
-    if let Some(answer) = frames::sight(nodes, question) {
-        return Step::Answer(answer);
-    }
-    if let Some(answer) = memo.recall(question) {
-        return Step::Answer(answer);
-    }
-    let wait = frames::begin(nodes, question);
-    stack.push(Pending {
-        question,
-        frame: wait.frame,
-    });
-    *opened = opened.saturating_add(1);
-    Step::Ask(wait.question)
-}
-
-// Takes an answer to the open question that waits for it: it asks on, or its own answer is built and noted.
-fn take<M: Memo>(
-    nodes: &mut NodeMemory<'_>,
-    memo: &mut M,
-    stack: &mut Stack<Pending>,
-    newest: Pending,
-    answer: Diagram,
-) -> Result<Step, Full>
-    requires notes { AllRight (trees nodes.old) (M.Memo.notes memo.old) }
-    requires closed { M.Memo.keeps memo.old → Closed (trees nodes.old) (M.Memo.notes memo.old) }
-    requires due { Due (trees nodes.old) (told (M.Memo.keeps memo.old) (trees nodes.old) (M.Memo.notes memo.old)) (length (stacked stack.old)) newest answer }
-    ensures notes { AllRight (trees nodes.new) (M.Memo.notes memo.new) }
-    ensures grows { Grows (trees nodes.old) (trees nodes.new) (ask_at (trees nodes.old) newest.question) }
-    ensures counts { OnOk result ((n : ℕ) → CountsOn (M.Memo.keeps memo.old) (M.Memo.keeps memo.new) (trees nodes.old) (M.Memo.notes memo.old) (trees nodes.new) (M.Memo.notes memo.new) (ask_at (trees nodes.old) newest.question) (stacked stack.old) (newest ∷ stacked stack.old) (stacked stack.new) n n) }
-    ensures already { M.Memo.keeps memo.new → M.Memo.keeps memo.old }
-    ensures closed { M.Memo.keeps memo.new → Closed (trees nodes.new) (M.Memo.notes memo.new) }
-    ensures takes { Takes (places nodes.old) (trees nodes.old) (told (M.Memo.keeps memo.old) (trees nodes.old) (M.Memo.notes memo.old)) (trees nodes.new) (told (M.Memo.keeps memo.new) (trees nodes.new) (M.Memo.notes memo.new)) (ask_at (trees nodes.old) newest.question) (stacked stack.old) (stacked stack.new) (load (newest ∷ stacked stack.old) (Answering answer)) result }
-    ensures places { places nodes.new ≡ places nodes.old }
-    ensures named { nodes.new.interner.slots.ghost_name ≡ nodes.old.interner.slots.ghost_name }
-{
-    let question = newest.question;
-    match frames::resume(newest.frame, answer) {
-        Next::Wait(wait) => {
-            stack.push(Pending {
-                question,
-                frame: wait.frame,
-            });
-            Ok(Step::Ask(wait.question))
+impl<'n, 'a, 'm, M: Memo> Solver<'n, 'a, 'm, M> {
+    // Asks a question: it is answered at sight or by a note, or else it is opened.
+    fn put(&mut self, question: Question) -> Step
+        requires puttable { Puttable (trees self.old.nodes.now) (length (stacked self.old.stack)) question }
+        ensures nodes { self.new.nodes ≡ self.old.nodes }
+        ensures memo { self.new.memo.ghost_name ≡ self.old.memo.ghost_name }
+        ensures notes { M.Memo.notes self.new.memo.now ≡ M.Memo.notes self.old.memo.now }
+        ensures counts { CountsOn (M.Memo.keeps self.old.memo.now) (M.Memo.keeps self.new.memo.now) (trees self.old.nodes.now) (M.Memo.notes self.old.memo.now) (trees self.old.nodes.now) (M.Memo.notes self.new.memo.now) (ask_at (trees self.old.nodes.now) question) (stacked self.old.stack) (stacked self.old.stack) (stacked self.new.stack) self.old.opened self.new.opened }
+        ensures already { M.Memo.keeps self.new.memo.now → M.Memo.keeps self.old.memo.now }
+        ensures steps { Steps (trees self.old.nodes.now) (told (M.Memo.keeps self.old.memo.now) (trees self.old.nodes.now) (M.Memo.notes self.old.memo.now)) (trees self.old.nodes.now) (told (M.Memo.keeps self.new.memo.now) (trees self.old.nodes.now) (M.Memo.notes self.new.memo.now)) (ask_at (trees self.old.nodes.now) question) (stacked self.old.stack) (stacked self.new.stack) (load (stacked self.old.stack) (Asking question)) result }
+    {
+        if let Some(answer) = frames::sight(self.nodes, question) {
+            return Step::Answer(answer);
         }
-        Next::Done(member, low, high) => {
-            let built = nodes.build(member, low, high)?;
-            memo.note(question, built);
-            Ok(Step::Answer(built))
+        if let Some(answer) = self.memo.recall(question) {
+            return Step::Answer(answer);
+        }
+        let wait = frames::begin(self.nodes, question);
+        self.stack.push(Pending {
+            question,
+            frame: wait.frame,
+        });
+        self.opened = self.opened.saturating_add(1);
+        Step::Ask(wait.question)
+    }
+
+    // Takes an answer to the open question that waits for it: it asks on, or its own answer is built and noted.
+    fn take(&mut self, newest: Pending, answer: Diagram) -> Result<Step, Full>
+        requires due { Due (trees self.old.nodes.now) (told (M.Memo.keeps self.old.memo.now) (trees self.old.nodes.now) (M.Memo.notes self.old.memo.now)) (length (stacked self.old.stack)) newest answer }
+        ensures nodes { self.new.nodes.ghost_name ≡ self.old.nodes.ghost_name }
+        ensures memo { self.new.memo.ghost_name ≡ self.old.memo.ghost_name }
+        ensures grows { Grows (trees self.old.nodes.now) (trees self.new.nodes.now) (ask_at (trees self.old.nodes.now) newest.question) }
+        ensures counts { OnOk result (CountsOn (M.Memo.keeps self.old.memo.now) (M.Memo.keeps self.new.memo.now) (trees self.old.nodes.now) (M.Memo.notes self.old.memo.now) (trees self.new.nodes.now) (M.Memo.notes self.new.memo.now) (ask_at (trees self.old.nodes.now) newest.question) (stacked self.old.stack) (newest ∷ stacked self.old.stack) (stacked self.new.stack) self.old.opened self.new.opened) }
+        ensures already { M.Memo.keeps self.new.memo.now → M.Memo.keeps self.old.memo.now }
+        ensures takes { Takes (places self.old.nodes.now) (trees self.old.nodes.now) (told (M.Memo.keeps self.old.memo.now) (trees self.old.nodes.now) (M.Memo.notes self.old.memo.now)) (trees self.new.nodes.now) (told (M.Memo.keeps self.new.memo.now) (trees self.new.nodes.now) (M.Memo.notes self.new.memo.now)) (ask_at (trees self.old.nodes.now) newest.question) (stacked self.old.stack) (stacked self.new.stack) (load (newest ∷ stacked self.old.stack) (Answering answer)) result }
+        ensures places { places self.new.nodes.now ≡ places self.old.nodes.now }
+        ensures named { self.new.nodes.now.interner.slots.ghost_name ≡ self.old.nodes.now.interner.slots.ghost_name }
+    {
+        let question = newest.question;
+        match frames::resume(newest.frame, answer) {
+            Next::Wait(wait) => {
+                self.stack.push(Pending {
+                    question,
+                    frame: wait.frame,
+                });
+                Ok(Step::Ask(wait.question))
+            }
+            Next::Done(node) => {
+                let built = self.nodes.build(node)?;
+                self.memo.note(question, built);
+                Ok(Step::Answer(built))
+            }
+        }
+    }
+
+    // Works a question out, with no question open before.
+    fn run(&mut self, question: Question) -> Result<Diagram, Full>
+        requires asks { (q : Asked) × Asks (trees self.old.nodes.now) question q × GoodAsk 1 q }
+        requires none_open { stacked self.old.stack ≡ [] }
+        requires none_opened { self.old.opened ≡ 0 }
+        ensures nodes { self.new.nodes.ghost_name ≡ self.old.nodes.ghost_name }
+        ensures memo { self.new.memo.ghost_name ≡ self.old.memo.ghost_name }
+        ensures answer { (q : Asked) → Asks (trees self.old.nodes.now) question q → WorkedOut (places self.old.nodes.now) (trees self.old.nodes.now) (trees self.new.nodes.now) q result }
+        ensures opened { M.Memo.keeps self.new.memo.now → (q : Asked) → Asks (trees self.old.nodes.now) question q → TalliedOut (trees self.old.nodes.now) (M.Memo.notes self.old.memo.now) (trees self.new.nodes.now) (M.Memo.notes self.new.memo.now) q result self.new.opened }
+        ensures already { M.Memo.keeps self.new.memo.now → M.Memo.keeps self.old.memo.now }
+        ensures grows { (q : Asked) → Asks (trees self.old.nodes.now) question q → Grows (trees self.old.nodes.now) (trees self.new.nodes.now) q }
+        ensures places { places self.new.nodes.now ≡ places self.old.nodes.now }
+        ensures named { self.new.nodes.now.interner.slots.ghost_name ≡ self.old.nodes.now.interner.slots.ghost_name }
+    {
+        let mut step = Step::Ask(question);
+        loop {
+            match step {
+                Step::Ask(asked) => step = self.put(asked),
+                Step::Answer(answer) => {
+                    let Some(newest) = self.stack.pop() else {
+                        return Ok(answer);
+                    };
+                    step = self.take(newest, answer)?;
+                }
+            }
         }
     }
 }
@@ -134,27 +161,15 @@ pub fn solve<M: Memo>(nodes: &mut NodeMemory<'_>, memo: &mut M, question: Questi
     ensures places { places nodes.new ≡ places nodes.old }
     ensures named { nodes.new.interner.slots.ghost_name ≡ nodes.old.interner.slots.ghost_name }
 {
-    let mut stack = no_open(question);
-    let mut opened = 0;
-    let mut step = Step::Ask(question);
-    loop {
-        match step {
-            Step::Ask(asked) => {
-                step = put(nodes, memo, &mut stack, &mut opened, asked);
-            }
-            Step::Answer(answer) => match stack.pop() {
-                None => return Solved {
-                    answer: Ok(answer),
-                    opened,
-                },
-                Some(newest) => match take(nodes, memo, &mut stack, newest, answer) {
-                    Ok(next) => step = next,
-                    Err(full) => return Solved {
-                        answer: Err(full),
-                        opened,
-                    },
-                },
-            },
-        }
+    let mut solver = Solver {
+        nodes,
+        memo,
+        stack: ArrayVec::new(),
+        opened: 0,
+    };
+    let answer = solver.run(question);
+    Solved {
+        answer,
+        opened: solver.opened,
     }
 }

@@ -1,10 +1,10 @@
 //! What an opened question of each kind waits for first: the answer on the low parts.
 ghost use Rattle.std.specs.Prelude.{◌≤◌};
 ghost use Rattle.families.specs.Trees.{Tree};
-ghost use Rattle.families.specs.Questions.{either, both, less, turn, off, on};
-ghost use Rattle.families.specs.Scripts.{script};
+ghost use Rattle.families.specs.Questions.{Ask, either, both, less, turn, top, low_at, high_at};
+ghost use Rattle.families.specs.Scripts.{script, ask, builds};
 ghost use Rattle.diagrams.specs.Building.{Denotes};
-ghost use Rattle.diagrams.specs.Frames.{Halved, Waits, ahead};
+ghost use Rattle.diagrams.specs.Frames.{AsksAs, Halved, Waits, ahead};
 ghost use Rattle.diagrams.specs.Memory.{trees};
 
 use super::{BothFrame, Frame, Halves, LessFrame, TurnFrame, Wait};
@@ -29,6 +29,7 @@ fn split(nodes: &NodeMemory<'_>, f: Diagram, g: Diagram) -> Halves
 }
 
 // What passes one of two.
+#[tactic(auto, using(crate::proofs::Begun::begins_either))]
 pub(super) fn begin_either(nodes: &NodeMemory<'_>, f: Diagram, g: Diagram) -> Wait
     ensures waits { (s t : Tree) → Denotes (trees nodes.now) f s → Denotes (trees nodes.now) g t → Waits (trees nodes.now) result (script (either s t)) }
     ensures few { ahead result.frame ≤ 6 }
@@ -45,6 +46,7 @@ pub(super) fn begin_either(nodes: &NodeMemory<'_>, f: Diagram, g: Diagram) -> Wa
 }
 
 // What passes both of two.
+#[tactic(auto, using(crate::proofs::Begun::begins_both))]
 pub(super) fn begin_both(nodes: &NodeMemory<'_>, f: Diagram, g: Diagram) -> Wait
     ensures waits { (s t : Tree) → Denotes (trees nodes.now) f s → Denotes (trees nodes.now) g t → Waits (trees nodes.now) result (script (both s t)) }
     ensures few { ahead result.frame ≤ 6 }
@@ -57,6 +59,7 @@ pub(super) fn begin_both(nodes: &NodeMemory<'_>, f: Diagram, g: Diagram) -> Wait
 }
 
 // The groups of the first that contain none of the second.
+#[tactic(auto, using(crate::proofs::Begun::begins_less))]
 pub(super) fn begin_less(nodes: &NodeMemory<'_>, f: Diagram, g: Diagram) -> Wait
     ensures waits { (s t : Tree) → Denotes (trees nodes.now) f s → Denotes (trees nodes.now) g t → Waits (trees nodes.now) result (script (less s t)) }
     ensures few { ahead result.frame ≤ 6 }
@@ -74,6 +77,7 @@ pub(super) fn begin_less(nodes: &NodeMemory<'_>, f: Diagram, g: Diagram) -> Wait
 }
 
 // The smallest groups that stop a family.
+#[tactic(auto, using(crate::proofs::Begun::begins_turn))]
 pub(super) fn begin_turn(nodes: &NodeMemory<'_>, f: Diagram) -> Wait
     ensures waits { (t : Tree) → Denotes (trees nodes.now) f t → Waits (trees nodes.now) result (script (turn t)) }
     ensures few { ahead result.frame ≤ 6 }
@@ -86,36 +90,24 @@ pub(super) fn begin_turn(nodes: &NodeMemory<'_>, f: Diagram) -> Wait
     }
 }
 
-// The groups without a member.
-pub(super) fn begin_off(nodes: &NodeMemory<'_>, f: Diagram, away: u8) -> Wait
-    ensures waits { (t : Tree) → Denotes (trees nodes.now) f t → Waits (trees nodes.now) result (script (off t away)) }
+// A question on one diagram that asks the same of its two parts: `of` makes the question of a part.
+#[tactic(auto, using(crate::proofs::Begun::begins_parts))]
+pub(super) fn begin_parts<F: Fn(Diagram) -> Question>(
+    nodes: &NodeMemory<'_>,
+    f: Diagram,
+    of: F,
+) -> Wait
+    requires { F.IsAlwaysCallable of }
+    ensures waits { (q : Tree → Ask) → AsksAs (trees nodes.now) (F.post of) q → (t : Tree) → Denotes (trees nodes.now) f t → Waits (trees nodes.now) result (ask (q (low_at (top t) t)) (λ l. ask (q (high_at (top t) t)) (λ h. builds (top t) l h))) }
     ensures few { ahead result.frame ≤ 6 }
 {
     let member = nodes.top(f);
     let f = nodes.parts(f, member);
     Wait {
-        frame: Frame::OffLow {
+        frame: Frame::Low {
             member,
-            f1: f.high,
-            away,
+            high: of(f.high),
         },
-        question: Question::Off(f.low, away),
-    }
-}
-
-// The groups with a member, which is taken out.
-pub(super) fn begin_on(nodes: &NodeMemory<'_>, f: Diagram, away: u8) -> Wait
-    ensures waits { (t : Tree) → Denotes (trees nodes.now) f t → Waits (trees nodes.now) result (script (on t away)) }
-    ensures few { ahead result.frame ≤ 6 }
-{
-    let member = nodes.top(f);
-    let f = nodes.parts(f, member);
-    Wait {
-        frame: Frame::OnLow {
-            member,
-            f1: f.high,
-            away,
-        },
-        question: Question::On(f.low, away),
+        question: of(f.low),
     }
 }

@@ -1,12 +1,16 @@
 //! The branches of a diagram that are still to be walked, each with the members gathered on the way to it.
 //! At a node the high side comes first and the low side is put off: so the groups come in falling order.
-ghost use Rattle.std.specs.Prelude.{length};
+ghost use Rattle.std.specs.Prelude.{◌≡◌, ◌≤◌, length, MatchOption};
+ghost use Rattle.interning.specs.Model.{held};
+ghost use Rattle.interning.specs.Places.{Stands};
+ghost use Rattle.families.specs.Groups.{weight};
 ghost use Rattle.diagrams.specs.Memory.{trees};
 ghost use Rattle.diagrams.specs.Stacks.{stacked};
 ghost use Rattle.diagrams.specs.Walking.{BranchFits, Comes};
 
 use super::NodeMemory;
-use crate::stack::Stack;
+use crate::node::Node;
+use arrayvec::ArrayVec;
 use families::masks::bit;
 use memos::diagram::{Diagram, View};
 
@@ -15,6 +19,16 @@ use memos::diagram::{Diagram, View};
 pub(super) struct Branch {
     pub(super) diagram: Diagram,
     pub(super) gathered: u64,
+}
+
+// The whole of no diagram.
+impl Default for Branch {
+    fn default() -> Branch {
+        Branch {
+            diagram: Diagram::none(),
+            gathered: 0,
+        }
+    }
 }
 
 // What a branch comes to: no group, the one that is gathered, or the high side of a node.
@@ -26,8 +40,17 @@ pub(super) enum Found {
 }
 
 impl<'a> NodeMemory<'a> {
+    // The node at a place with the number of its member, or none past the last place.
+    pub(super) fn weighed(&self, place: u32) -> Option<(Node, u64)>
+        ensures { MatchOption result (length (trees self.now) ≤ place) (λ r. Stands (held self.now.interner) r.0 place × (r.1 ≡ weight r.0.member)) }
+    {
+        let node = self.interner.key_at(place)?;
+        let weight = bit(u32::from(node.member))?;
+        Some((node, weight))
+    }
+
     // Looks at a branch. The low side of a node is put off.
-    pub(super) fn fork(&self, branch: Branch, later: &mut Stack<Branch>) -> Found
+    pub(super) fn fork(&self, branch: Branch, later: &mut ArrayVec<Branch, 48>) -> Found
         requires { BranchFits (trees self.now) (length (stacked later.old)) branch }
         ensures { Comes (trees self.now) branch (stacked later.old) (stacked later.new) result }
     {
@@ -35,11 +58,7 @@ impl<'a> NodeMemory<'a> {
             View::None => Found::Nothing,
             View::Always => Found::Group,
             View::Node(place) => {
-                if place >= self.len() {
-                    return Found::Nothing;
-                }
-                let node = self.key(place);
-                let Some(weight) = bit(u32::from(node.member)) else {
+                let Some((node, weight)) = self.weighed(place) else {
                     return Found::Nothing;
                 };
                 later.push(Branch {

@@ -8,22 +8,20 @@ ghost use Rattle.diagrams.specs.Memory.{places, trees};
 use super::NodeMemory;
 use crate::node::Node;
 use interning::interner::Full;
-use memos::diagram::{Diagram, View};
+use memos::diagram::Diagram;
 
 impl<'a> NodeMemory<'a> {
     // The diagram over two parts: low where high is none, else the node, which takes the next place where it has none.
-    pub(crate) fn build(&mut self, member: u8, low: Diagram, high: Diagram) -> Result<Diagram, Full>
-        requires fitting { Fitting (trees self.old) member low high }
-        ensures joins { (l h : Tree) → Denotes (trees self.old) low l → Denotes (trees self.old) high h → Joins (places self.old) (trees self.old) member l h result (trees self.new) }
+    pub(crate) fn build(&mut self, node: Node) -> Result<Diagram, Full>
+        requires fitting { Fitting (trees self.old) node }
+        ensures joins { (l h : Tree) → Denotes (trees self.old) node.low l → Denotes (trees self.old) node.high h → Joins (places self.old) (trees self.old) node.member l h result (trees self.new) }
         ensures places { places self.new ≡ places self.old }
         ensures named { self.new.interner.slots.ghost_name ≡ self.old.interner.slots.ghost_name }
     {
-        if let View::None = high.view() {
-            return Ok(low);
+        if node.high == Diagram::none() {
+            return Ok(node.low);
         }
-        match self.interner.intern(Node { member, low, high }) {
-            Ok(place) => Diagram::node(place).ok_or(Full),
-            Err(full) => Err(full),
-        }
+        let place = self.interner.intern(node)?;
+        Diagram::node(place).ok_or(Full)
     }
 }

@@ -7,6 +7,7 @@ ghost use Rattle.diagrams.specs.Collecting.{ClosedFrom, Copied, Moved, ThrownOut
 ghost use Rattle.diagrams.specs.Memory.{SameMemory, trees};
 
 use super::{Cell, NodeMemory, TooFewCells};
+use crate::node::Node;
 use memos::diagram::{Diagram, View};
 
 // A diagram under the name that it has moved to.
@@ -60,7 +61,7 @@ impl<'a> NodeMemory<'a> {
             };
             let low = moved(cells, node.low);
             let high = moved(cells, node.high);
-            let diagram = self.build(node.member, low, high).unwrap();
+            let diagram = self.build(Node { low, high, ..node }).unwrap();
             cells[place as usize].moved = diagram;
         }
     }

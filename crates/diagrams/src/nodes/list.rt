@@ -8,11 +8,11 @@ ghost use Rattle.diagrams.specs.Memory.{trees};
 
 use super::NodeMemory;
 use super::branch::{Branch, Found};
-use crate::stack::Stack;
-use families::masks::bit;
+use arrayvec::ArrayVec;
 use memos::diagram::{Diagram, View};
 
 // Writes a group from a place of the buffer on, the most significant byte first.
+#[tactic(auto, using(crate::proofs::Pages::put_mid_is))]
 fn put(buffer: &mut [u8], at: usize, group: u64)
     requires { at + 8 ≤ length buffer.old }
     ensures { buffer.new ≡ take at buffer.old ++ (group_bytes group ++ drop (at + 8) buffer.old) }
@@ -32,11 +32,7 @@ impl<'a> NodeMemory<'a> {
             View::None => None,
             View::Always => Some(0),
             View::Node(place) => {
-                if place >= self.len() {
-                    return None;
-                }
-                let node = self.key(place);
-                let weight = bit(u32::from(node.member))?;
+                let (node, weight) = self.weighed(place)?;
                 match self.first_below(node.high, limit.saturating_sub(weight)) {
                     Some(group) => Some(weight + group),
                     None => self.first_below(node.low, limit),
@@ -51,15 +47,14 @@ impl<'a> NodeMemory<'a> {
         ensures { (t : Tree) → Denotes (trees self.now) diagram t → Listed (page limit (length buffer.old / 8) (groups t)) buffer.old buffer.new result }
     {
         let room = buffer.len() / 8;
+        // counted by hand: with the cells of `chunks_exact_mut` no proof knows what they left in the buffer
         let mut count = 0;
-        let root = Branch {
+        let mut later = ArrayVec::<Branch, 48>::new();
+        later.push(Branch {
             diagram,
             gathered: 0,
-        };
-        let mut later = Stack::empty(root);
-        later.push(root);
-        'page: while let Some(first) = later.pop() {
-            let mut branch = first;
+        });
+        'page: while let Some(mut branch) = later.pop() {
             'descent: while branch.gathered < limit {
                 match self.fork(branch, &mut later) {
                     Found::High(high) => branch = high,

@@ -4,6 +4,7 @@ ghost use Rattle.diagrams.specs.Building.{Makes, single_made, single_tree};
 ghost use Rattle.diagrams.specs.Memory.{places, trees};
 
 use super::NodeMemory;
+use crate::node::Node;
 use interning::interner::Full;
 use memos::diagram::Diagram;
 
@@ -14,9 +15,13 @@ impl<'a> NodeMemory<'a> {
         ensures places { places self.new ≡ places self.old }
         ensures named { self.new.interner.slots.ghost_name ≡ self.old.interner.slots.ghost_name }
     {
-        if member < 1 || member > 48 {
+        if !(1..=48).contains(&member) {
             return Ok(Diagram::none());
         }
-        self.build(member, Diagram::none(), Diagram::always())
+        self.build(Node {
+            member,
+            low: Diagram::none(),
+            high: Diagram::always(),
+        })
     }
 }

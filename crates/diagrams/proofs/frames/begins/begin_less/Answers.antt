@@ -1,7 +1,0 @@
-use Rattle.std.proofs.Common.{lit≤}
-use Rattle.diagrams.specs.Memory.{trees}
-use Rattle.diagrams.proofs.Begun.{begins_less}
-use Rattle.diagrams.proofs.frames.begins.begin_less.Goals as goal
-
-pub returns : goal.returns
-returns c = record { waits = λ s t f g. begins_less (trees c.args.nodes.now) c.split-halves.result s t (c.split-halves.ensures s t f g); few = lit≤ tt }

@@ -24,9 +24,6 @@ loop-lexeme-init c =
       };
     }
 
-pub take-requires : goal.take-requires
-take-requires c = (c.loop-lexeme.invariant.onward.state, c.loop-lexeme.invariant.onward.follows)
-
 pub returns-in_err-wants-clause-reads : goal.returns-in_err-wants-clause-reads
 returns-in_err-wants-clause-reads c =
     let p = err_from_is_err_and c.from_residual-in_err-wants.result c.from_residual-in_err-wants.ensures.1 in

@@ -1,4 +1,3 @@
-pub mod Table
 pub mod Stack
 pub mod OpenLists
 pub mod Ranks

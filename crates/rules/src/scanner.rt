@@ -1,5 +1,5 @@
 //! The scanner: a text, token by token. Each call finds the end of one longest run, and the runs of what is left stay as they were.
-ghost use Rattle.std.specs.Prelude.{◌≡◌, ℕ, ◌+◌, ◌-◌, ◌<◌, ◌≤◌, min, true, length, is_some, ◌≢◌, slice_index};
+ghost use Rattle.std.specs.Prelude.{◌≡◌, ◌<◌, ◌≤◌, length, ◌≢◌, slice_index};
 ghost use Rattle.rules.specs.Classes.{class};
 ghost use Rattle.rules.specs.Scanning.{OneClass, FirstRun};
 ghost use Rattle.rules.specs.Tokens.{value, classed};

@@ -8,7 +8,7 @@ mod verdicts;
 
 ghost use Rattle.std.specs.Prelude.{◌≤◌, vec_len, OnOk};
 
-use anyhow::anyhow;
+use anyhow::ensure;
 use interning::slot::Slot;
 use rules::read::read;
 use rules::terms::{TermKey, TermMemory};
@@ -53,11 +53,8 @@ fn run(rt: &HostRuntime) -> anyhow::Result<()> {
         judge(heap, &mut tally, &mut terms, line)?;
     }
     tally.print(rt)?;
-    if tally.is_clean() {
-        Ok(())
-    } else {
-        Err(anyhow!("not every line agrees"))
-    }
+    ensure!(tally.is_clean(), "not every line agrees");
+    Ok(())
 }
 
 fn main(rt: HostRuntime) -> anyhow::Result<()> {

@@ -21,11 +21,11 @@ struct Finding {
 
 impl fmt::Display for Finding {
     fn fmt<W: fmt::Write>(&self, f: &mut fmt::Formatter<W>) -> fmt::Result {
-        let line = self.line;
+        write!(f, "line {}: ", self.line)?;
         match self.trouble {
-            Trouble::Malformed => write!(f, "line {line}: malformed"),
+            Trouble::Malformed => f.write_str("malformed"),
             Trouble::Differs { told, ours } => {
-                write!(f, "line {line}: the press says {told}, the reading {ours}")
+                write!(f, "the press says {told}, the reading {ours}")
             }
         }
     }
@@ -101,13 +101,10 @@ impl Tally {
         for (number, count) in self.denied.iter() {
             println!(rt; "denied {number:>2}: {count:>3} agree")?;
         }
-        let let_in = self.let_in;
-        println!(rt; "let in:    {let_in:>3} agree")?;
+        println!(rt; "let in:    {:>3} agree", self.let_in)?;
         for finding in self.findings.iter() {
             rt.println(*finding)?;
         }
-        let agreed = self.agreed;
-        let lines = self.lines;
-        println!(rt; "{agreed} of {lines} agree")
+        println!(rt; "{} of {} agree", self.agreed, self.lines)
     }
 }

@@ -1,6 +1,6 @@
 //! What is said of a rule, by the reading or by the press.
 ghost use Rattle.std.specs.Prelude.{◌≡◌, Ok, Err, MatchResult};
-ghost use Rattle.rules.specs.Faults.{number as number_of, place as place_of};
+ghost use Rattle.conformance.specs.Denials.{denial};
 
 use rules::faults::RuleFault;
 use std::fmt;
@@ -14,7 +14,7 @@ pub struct Denial {
 }
 
 impl From<RuleFault> for Denial {
-    ghost from_gives = { λ fault d. d ≡ record { number = number_of fault; place = place_of fault } };
+    ghost from_gives = { λ fault r. r ≡ denial fault };
 
     fn from(fault: RuleFault) -> Denial {
         Denial {
@@ -26,10 +26,10 @@ impl From<RuleFault> for Denial {
 
 impl fmt::Display for Denial {
     fn fmt<W: fmt::Write>(&self, f: &mut fmt::Formatter<W>) -> fmt::Result {
-        let number = self.number;
+        write!(f, "denied {}", self.number)?;
         match self.place {
-            Some(place) => write!(f, "denied {number} at {place}"),
-            None => write!(f, "denied {number}"),
+            Some(place) => write!(f, " at {place}"),
+            None => Ok(()),
         }
     }
 }
@@ -41,7 +41,7 @@ pub struct Verdict(pub Result<(), Denial>);
 impl Verdict {
     // What the reading says.
     pub(crate) fn of(reading: Result<u32, RuleFault>) -> Verdict
-        ensures { MatchResult reading (λ _. result.0 ≡ Ok tt) (λ fault. result.0 ≡ Err (record { number = number_of fault; place = place_of fault })) }
+        ensures { MatchResult reading (λ _. result.0 ≡ Ok tt) (λ fault. result.0 ≡ Err (denial fault)) }
     {
         Verdict(reading.map(|_| ()).map_err(Denial::from))
     }
@@ -71,9 +71,9 @@ impl Verdict {
 
 impl fmt::Display for Verdict {
     fn fmt<W: fmt::Write>(&self, f: &mut fmt::Formatter<W>) -> fmt::Result {
-        match self.0 {
-            Ok(()) => write!(f, "let in"),
-            Err(denial) => write!(f, "{denial}"),
+        match &self.0 {
+            Ok(()) => f.write_str("let in"),
+            Err(denial) => denial.fmt(f),
         }
     }
 }

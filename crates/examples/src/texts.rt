@@ -1,5 +1,5 @@
 //! Texts that are too long to write out.
-ghost use Rattle.std.specs.Prelude.{◌≡◌, ◌+◌, ◌*◌, ◌<◌, max, length, IfOk, string_len};
+ghost use Rattle.std.specs.Prelude.{◌≡◌, ◌+◌, ◌*◌, max, length, IfOk, string_len};
 
 use std::alloc::{AllocError, Global};
 

@@ -1,11 +1,10 @@
 -- What a text comes to, from what its tokens come to.
-use Rattle.std.proofs.Common.{◌≡◌, ℕ, ◌<◌, ◌≤◌, true, false, leb, List, length, Ok, Err, Result, sym, refl, subst, arith}
-use Rattle.std.proofs.lemmas.Bool.{cond-true, cond-false, le-leb, lt-leb}
+use Rattle.std.proofs.Common.{◌≡◌, ℕ, ◌≤◌, false, leb, List, length, Ok, Err, Result, sym, subst, arith}
+use Rattle.std.proofs.lemmas.Bool.{cond-true, le-leb}
 use Rattle.interning.proofs.Distinct.{counted}
 use Rattle.rules.specs.declared.faults.RuleFault.{RuleFault}
-use Rattle.rules.specs.declared.faults.RuleFault.TheVariants.{Length, Terms as TooMany}
 use Rattle.rules.specs.declared.terms.TermMemory.{TermMemory}
-use Rattle.rules.specs.Building.{Held, different}
+use Rattle.rules.specs.Building.{different}
 use Rattle.rules.specs.Memory.{view}
 use Rattle.rules.specs.Outcome.{placed, outcome, Comes, Off, ReadOff}
 use Rattle.rules.specs.Reading.{reading, run, start}
@@ -20,29 +19,7 @@ use Rattle.rules.proofs.Subterms.{same_decides}
 pub short_reading : (n : ℕ) (text : List ℕ) → length text ≤ 4096 → reading n text ≡ run n (length text) (Ok start) (lexemes 0 text)
 short_reading n text l = cond-true (leb (length text) 4096) _ _ (le-leb (length text) 4096 l)
 
-pub long_reading : (n : ℕ) (text : List ℕ) → 4096 < length text → reading n text ≡ Err Length
-long_reading n text l = cond-false (leb (length text) 4096) _ _ (lt-leb (length text) 4096 l)
-
-pub comes_long : (h : Held) (n room : ℕ) (text : List ℕ) → 4096 < length text → Comes h (Err Length) (outcome n room text)
-comes_long h n room text l = subst (λ x. Comes h (Err Length) (placed room x)) (sym (long_reading n text l)) refl
-
-pub comes_fault : (h : Held) (n room : ℕ) (text : List ℕ) (f : RuleFault) → length text ≤ 4096 → ReadOff n text h (Err f) → Comes h (Err f) (outcome n room text)
-comes_fault h n room text f l off = subst (λ x. Comes h (Err f) (placed room x)) (sym (short_reading n text l)) (fault (run n (length text) (Ok start) (lexemes 0 text)) off)
-  where
-    fault : (x : Result Rule RuleFault) → Off h (Err f) x → Comes h (Err f) (placed room x)
-    fault (Err g) e = e
-    fault (Ok r) e = absurd e
-
 module _ (m : TermMemory) (n : ℕ) (text : List ℕ) (p : ℕ) (l : length text ≤ 4096) (off : ReadOff n text (view m) (Ok p)) where
-  over_from : (x : Result Rule RuleFault) → Off (view m) (Ok p) x → (view m).over ≡ true → Comes (view m) (Err TooMany) (placed (view m).room x)
-  over_from (Err g) e over = absurd e
-  over_from (Ok r) e over =
-      subst (Comes (view m) (Err TooMany)) (sym (cond-false (leb (different (subterms (expand r))) (view m).room) _ _ (lt-leb (different (subterms (expand r))) (view m).room (e.1.over over)))) refl
-
-  -- a term found no place
-  pub comes_over : (view m).over ≡ true → Comes (view m) (Err TooMany) (outcome n (view m).room text)
-  comes_over over = subst (λ x. Comes (view m) (Err TooMany) (placed (view m).room x)) (sym (short_reading n text l)) (over_from _ off over)
-
   held_from : (x : Result Rule RuleFault) → Off (view m) (Ok p) x → (view m).over ≡ false → Comes (view m) (Ok p) (placed (view m).room x)
   held_from (Err g) e off' = absurd e
   held_from (Ok r) e off' =

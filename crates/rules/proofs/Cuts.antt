@@ -111,24 +111,6 @@ module _ (text : List ℕ) where
           cut = ap (map lexeme) (stretch_first a e one l) ∙ ap (λ c. classed c a (between a e text) ∷ ahead text e) (sym is);
         }
 
-alone : (k : Class) → (k ≡ Digit → ⊥) → (k ≡ Letter → ⊥) → (k ≡ Blank → ⊥) → (a b : ℕ) (rs : List Run) → lead a k b rs ≡ single a k b ∷ rs
-alone Digit d l n a b rs = absurd (d refl)
-alone Letter d l n a b rs = absurd (l refl)
-alone Open d l n a b rs = refl
-alone Close d l n a b rs = refl
-alone Blank d l n a b rs = absurd (n refl)
-alone Other d l n a b rs = refl
-
-pub first_alone : (text : List ℕ) (a : ℕ) (k : Class) → a < length text → class (get_or text a 0) ≡ k → (k ≡ Digit → ⊥) → (k ≡ Letter → ⊥) → (k ≡ Blank → ⊥) → FirstRun text a (a + 1)
-first_alone text a k h is d l n =
-    let one : a + 1 - a ≡ 1 = omega arith in
-    let bytes : get_or text a 0 ∷ [] ≡ between a (a + 1) text = ap (take 1) (sym (drop_more text a 0 h)) ∙ ap (λ m. take m (drop a text)) (sym one) in
-    record {
-      onward = omega arith;
-      within = omega arith;
-      cut = ap (map lexeme) (one_byte text a k h is ∙ alone k d l n a (get_or text a 0) (runs (a + 1) (drop (a + 1) text))) ∙ (λ i. classed (sym is i) a (bytes i) ∷ ahead text (a + 1));
-    }
-
 pub blanks_ahead : (text : List ℕ) (a e : ℕ) → OneClass text Blank a e → ahead text a ≡ ahead text e
 blanks_ahead text a e h = ap (map lexeme) (blanks_passed text a e h)
 

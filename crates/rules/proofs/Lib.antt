@@ -1,4 +1,3 @@
-pub mod Table
 pub mod Nests
 pub mod Ranks
 pub mod Cuts

@@ -1,4 +1,4 @@
-//! The classes of bytes in a rule's text. The table's ranges are proved once, by one computed test over all of it.
+//! The classes of bytes in a rule's text. The table is held to its definition by one computation over all of it.
 ghost use Rattle.std.specs.Prelude.{◌≡◌};
 ghost use Rattle.rules.specs.Classes.{class};
 

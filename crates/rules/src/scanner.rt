@@ -1,5 +1,5 @@
 //! The scanner: a text, token by token. Each call finds the end of one longest run, and the runs of what is left stay as they were.
-ghost use Rattle.std.specs.Prelude.{◌≡◌, ℕ, ◌+◌, ◌-◌, ◌<◌, ◌≤◌, min, true, length, is_some, ◌≢◌, slice_index};
+ghost use Rattle.std.specs.Prelude.{◌≡◌, ◌<◌, ◌≤◌, length, ◌≢◌, slice_index};
 ghost use Rattle.rules.specs.Classes.{class};
 ghost use Rattle.rules.specs.Scanning.{OneClass, FirstRun};
 ghost use Rattle.rules.specs.Tokens.{value, classed};
@@ -80,15 +80,12 @@ impl Iterator for Scanner<'_> {
     ghost remaining = { item_count left };
 
     fn next(&mut self) -> Option<Result<Token, TextFault>> {
-        let text = self.text;
-        let place = run_end(text, self.at, Class::Blank);
+        let place = run_end(self.text, self.at, Class::Blank);
         self.at = place;
-        if place >= text.len() {
-            return None;
-        }
-        let end = first_end(text, place);
+        let class = Class::from(*self.text.get(place)?);
+        let end = first_end(self.text, place);
         self.at = end;
-        Some(lexeme_of(Class::from(text[place]), place, &text[place..end]))
+        Some(lexeme_of(class, place, &self.text[place..end]))
     }
 }
 

@@ -1,8 +1,8 @@
-use Rattle.std.proofs.Common.{◌≡◌, ℕ, List, sym, refl, ◌∙◌, ◌⊎◌, ⊎_elim, subst}
+use Rattle.std.proofs.Common.{◌≡◌, ℕ, List, sym, refl, ◌⊎◌, ⊎_elim, subst}
 use Rattle.rules.specs.declared.classes.Class.{Class}
 use Rattle.rules.specs.declared.classes.Class.TheVariants.{Digit, Letter}
 use Rattle.rules.specs.Runs.{Run, grow, lead}
-use Rattle.rules.proofs.Cuts.{first_joined, first_alone}
+use Rattle.rules.proofs.Cuts.{first_joined}
 use Rattle.rules.proofs.scanner.first_end.Goals as goal
 
 joins : (k : Class) → (k ≡ Digit) ⊎ (k ≡ Letter) → (a b : ℕ) (rs : List Run) → lead a k b rs ≡ grow a k b rs
@@ -12,8 +12,3 @@ joins k is a b rs =
 pub returns-in-Digit : goal.returns-in-Digit
 returns-in-Digit c =
     first_joined c.args.text.now _ (joins _ c.in-Digit.is) _ _ c.requires.within (sym c.from-class.ensures) c.run_end.ensures
-
-pub returns-in_default : goal.returns-in_default
-returns-in_default c =
-    first_alone c.args.text.now c.args.place c.from-class.result c.requires.within (sym c.from-class.ensures) c.in_default.not-Digit c.in_default.not-Letter
-    (λ e. c.requires.begun (sym c.from-class.ensures ∙ e))

@@ -19,6 +19,7 @@ fn read_tokens(text: &[u8], n: u8, terms: &mut TermMemory<'_>) -> Result<u32, Ru
     ensures room { (view terms.new).room ≡ (view terms.old).room }
 {
     let mut scanner = Scanner::new(text);
+    // built in place, so that what it leaves in the memory is known
     let mut reader = Reader {
         nest: ArrayVec::new(),
         wants: Wants::Item,

@@ -83,13 +83,11 @@ fn at_figure(token: Token, word: Word) -> Result<Wants, RuleFault>
     ensures { (n : ℕ) (h : Held) (ls : List OpenList) (fs : List Frame) → Follows n h (WantsFigure word) ls (record { stage = wants_figure word; frames = fs }) → Steps n h result ls (at_figure token.place token.kind word fs) }
 {
     let place = token.place;
-    match token.kind {
-        Kind::Number(value) => match in_range(value, 64) {
-            Some(figure) => Ok(Wants::Bracket(word.head(figure))),
-            None => Err(RuleFault::Range(place)),
-        },
-        _ => Err(RuleFault::Token(place)),
-    }
+    let Kind::Number(value) = token.kind else {
+        return Err(RuleFault::Token(place));
+    };
+    let figure = in_range(value, 64).ok_or(RuleFault::Range(place))?;
+    Ok(Wants::Bracket(word.head(figure)))
 }
 
 // A token where a list's bracket is wanted.
@@ -113,10 +111,7 @@ fn at_bracket(nest: &mut Nest, token: Token, head: Head) -> Result<Wants, RuleFa
 fn is_crowded(nest: &Nest) -> bool
     ensures { result ≡ crowded (levels nest.now) }
 {
-    match nest.last() {
-        Some(list) => list.places.is_full(),
-        None => false,
-    }
+    nest.last().is_some_and(|list| list.places.is_full())
 }
 
 // An item ends: it joins the innermost open list, or is the whole rule.
@@ -168,9 +163,7 @@ impl<'m, 'a> Reader<'m, 'a> {
         ensures steps { (fs : List Frame) → ReaderAtItem self.old fs → ReaderSteps self.new result (at_item self.old.n place (Number value) fs) }
         ensures same { SameReader self.old self.new }
     {
-        let Some(member) = in_range(value, self.n) else {
-            return Err(RuleFault::Range(place));
-        };
+        let member = in_range(value, self.n).ok_or(RuleFault::Range(place))?;
         if is_crowded(&self.nest) {
             return Err(RuleFault::Shape(place));
         }

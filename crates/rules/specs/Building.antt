@@ -17,6 +17,10 @@ pub record Held : Type 0 where
   pub room : ℕ
   pub over : Bool
 
+-- a memory of so many places that holds no term
+abbrev pub empty : ℕ → Held
+empty room = record { terms = []; room = room; over = false }
+
 -- where no term went without a place, t stands at p
 abbrev pub At : Held → ℕ → Term → Type 0
 At h p t = h.over ≡ false → Stands h.terms t p

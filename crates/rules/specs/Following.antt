@@ -2,12 +2,13 @@
 use Rattle.std.specs.Prelude.{◌≡◌, ℕ, List, [], ◌∷◌, ◌++◌, map, Ok, Err, Result}
 use Rattle.rules.specs.declared.faults.RuleFault.{RuleFault}
 use Rattle.rules.specs.declared.faults.RuleFault.TheVariants.{Token as Unfit}
+use Rattle.rules.specs.declared.nest.OpenList.{OpenList}
 use Rattle.rules.specs.declared.reader.Wants.{Wants}
 use Rattle.rules.specs.declared.reader.Wants.TheVariants.{Item, Figure, Bracket, Nothing}
 use Rattle.rules.specs.declared.words.Head.{Head}
 use Rattle.rules.specs.declared.words.Word as words
 use Rattle.rules.specs.Building.{Held, At, AllAt, Within}
-use Rattle.rules.specs.Levels.{Level, added}
+use Rattle.rules.specs.Levels.{added}
 use Rattle.rules.specs.Progress.{FramesGood, StageGood}
 use Rattle.rules.specs.Reading.{Frame, Stage, State, wants_item, wants_figure, wants_bracket, finished}
 use Rattle.rules.specs.Rules.{Rule}
@@ -40,11 +41,11 @@ Waits h (Nothing p) (wants_bracket y) = ⊥
 Waits h (Nothing p) (finished r) = At h p (expand r)
 
 -- an open list with places stands for one with rules: its places have the terms that the rules expand to
-pub record LevelStands (h : Held) (l : Level) (f : Frame) : Type 0 where
+pub record LevelStands (h : Held) (l : OpenList) (f : Frame) : Type 0 where
   pub head : l.head ≡ f.head
-  pub items : AllAt h l.places (map expand f.items)
+  pub items : AllAt h l.places.items (map expand f.items)
 
-abbrev pub LevelsStand : Held → List Level → List Frame → Type 0
+abbrev pub LevelsStand : Held → List OpenList → List Frame → Type 0
 LevelsStand h [] [] = Unit {0}
 LevelsStand h [] (f ∷ fs) = ⊥
 LevelsStand h (l ∷ ls) [] = ⊥
@@ -67,7 +68,7 @@ state_terms (wants_bracket h) fs = frames_terms fs
 state_terms (finished r) fs = subterms (expand r)
 
 -- with members up to n, a memory, what is wanted and the open lists follow a state of the reading
-pub record Follows (n : ℕ) (h : Held) (w : Wants) (ls : List Level) (s : State) : Type 0 where
+pub record Follows (n : ℕ) (h : Held) (w : Wants) (ls : List OpenList) (s : State) : Type 0 where
   pub stage_good : StageGood n s.stage s.frames
   pub frames_good : FramesGood n s.frames
   pub waits : Waits h w s.stage
@@ -75,19 +76,19 @@ pub record Follows (n : ℕ) (h : Held) (w : Wants) (ls : List Level) (s : State
   pub within : Within h (state_terms s.stage s.frames)
 
 -- an outcome follows an outcome of the reading
-abbrev pub Steps : ℕ → Held → Result Wants RuleFault → List Level → Result State RuleFault → Type 0
+abbrev pub Steps : ℕ → Held → Result Wants RuleFault → List OpenList → Result State RuleFault → Type 0
 Steps n h (Ok w) ls (Ok s) = Follows n h w ls s
 Steps n h (Ok w) ls (Err g) = ⊥
 Steps n h (Err f) ls (Ok s) = ⊥
 Steps n h (Err f) ls (Err g) = f ≡ g
 
 -- an item at a place joins the innermost open list, or is the whole rule
-abbrev pub Joined : ℕ → List Level → Wants → List Level → Type 0
+abbrev pub Joined : ℕ → List OpenList → Wants → List OpenList → Type 0
 Joined p [] w ms = (w ≡ Nothing p) × (ms ≡ [])
 Joined p (l ∷ ls) w ms = (w ≡ Item) × (ms ≡ added p (l ∷ ls))
 
 -- an item is wanted, with these lists open
-abbrev pub AtItem : ℕ → Held → List Level → List Frame → Type 0
+abbrev pub AtItem : ℕ → Held → List OpenList → List Frame → Type 0
 AtItem n h ls fs = Follows n h Item ls (record { stage = wants_item; frames = fs })
 
 -- the end of a text: the place of the whole rule, where nothing more is wanted

@@ -1,26 +1,17 @@
 -- The open lists of a nest, the innermost first.
-use Rattle.std.specs.Prelude.{ℕ, Bool, false, List, [], ◌∷◌, ◌++◌, map, reverse, length, nat_le}
+use Rattle.std.specs.Prelude.{ℕ, Bool, false, List, [], ◌∷◌, ◌++◌, reverse, length, nat_le}
 use Rattle.arrayvec.specs.ArrayVec.{ArrayVec}
 use Rattle.rules.specs.declared.nest.OpenList.{OpenList}
-use Rattle.rules.specs.declared.words.Head.{Head}
 
--- an open list: what it asks of its items, and their places
-pub record Level : Type 0 where
-  pub head : Head
-  pub places : List ℕ
-
-abbrev pub level : OpenList → Level
-level o = record { head = o.head; places = o.items.items }
-
-abbrev pub levels : ArrayVec OpenList → List Level
-levels n = map level (reverse n.items)
+abbrev pub levels : ArrayVec OpenList → List OpenList
+levels n = reverse n.items
 
 -- the innermost list has 64 items
-abbrev pub crowded : List Level → Bool
+abbrev pub crowded : List OpenList → Bool
 crowded [] = false
-crowded (l ∷ ls) = nat_le 64 (length l.places)
+crowded (l ∷ ls) = nat_le 64 (length l.places.items)
 
 -- an item more in the innermost list
-abbrev pub added : ℕ → List Level → List Level
+abbrev pub added : ℕ → List OpenList → List OpenList
 added p [] = []
-added p (l ∷ ls) = record { head = l.head; places = l.places ++ (p ∷ []) } ∷ ls
+added p (l ∷ ls) = record { head = l.head; places = record { items = l.places.items ++ (p ∷ []) } } ∷ ls

@@ -1,9 +1,9 @@
 -- What a text comes to in a memory with so many places: the term that its rule expands to, or why it is denied.
-use Rattle.std.specs.Prelude.{◌≡◌, ℕ, false, cond, List, [], length, Ok, Err, Result, nat_le}
+use Rattle.std.specs.Prelude.{◌≡◌, ℕ, false, cond, List, length, Ok, Err, Result, nat_le}
 use Rattle.interning.specs.Places.{Apart, Stands}
 use Rattle.rules.specs.declared.faults.RuleFault.{RuleFault}
 use Rattle.rules.specs.declared.faults.RuleFault.TheVariants.{Terms as TooMany}
-use Rattle.rules.specs.Building.{Held, At, Within, different}
+use Rattle.rules.specs.Building.{Held, empty, At, Within, different}
 use Rattle.rules.specs.Members.{◌⊆◌}
 use Rattle.rules.specs.Reading.{reading, run, start}
 use Rattle.rules.specs.Rules.{Rule}
@@ -36,7 +36,7 @@ Comes h (Err f) (Err g) = f ≡ g
 -- a fault leaves the memory empty
 abbrev pub Left : Held → Result ℕ RuleFault → Type 0
 Left h (Ok p) = Unit {0}
-Left h (Err f) = h ≡ record { terms = []; room = h.room; over = false }
+Left h (Err f) = h ≡ empty h.room
 
 -- the rule that the tokens of a text spell has been read into a memory
 abbrev pub Off : Held → Result ℕ RuleFault → Result Rule RuleFault → Type 0

@@ -36,6 +36,7 @@ impl<'a> TermMemory<'a> {
         requires { (1 ≤ fewest) × (most ≤ left) × (most < length row.old) }
         ensures { (e : Term) (es us : List Term) → left ≡ suc (length es) → Ready (view self.old) row.old item fewest most e es us → Filled (view self.old) (view self.new) row.new fewest most (e ∷ es) us }
     {
+        // Each cell is written over from itself and the one before it, which no iterator over the row lends together.
         for j in (fewest..most + 1).rev() {
             row[j] = self.cell(item, left, j, row[j - 1], row[j]);
         }

@@ -19,17 +19,17 @@ pub type Places = ArrayVec<u32, WIDTH>;
 #[derive(Drop)]
 pub struct OpenList {
     pub head: Head,
-    pub items: Places,
+    pub places: Places,
 }
 
 impl OpenList {
     // A list without items.
     pub(crate) fn new(head: Head) -> OpenList
-        ensures { result ≡ record { head = head; items = record { items = [] } } }
+        ensures { result ≡ record { head = head; places = record { items = [] } } }
     {
         OpenList {
             head,
-            items: ArrayVec::new(),
+            places: ArrayVec::new(),
         }
     }
 }

@@ -3,7 +3,8 @@
 ghost use Rattle.std.specs.Prelude.{◌≡◌, ℕ, ◌<◌, ◌≤◌, true, false, List, [], length, if◌then◌else◌, Some, None};
 ghost use Rattle.rules.specs.Building.{Held};
 ghost use Rattle.rules.specs.Following.{Finishes, Follows, Steps, Joined, after};
-ghost use Rattle.rules.specs.Levels.{Level, levels, crowded};
+ghost use Rattle.rules.specs.Levels.{levels, crowded};
+ghost use Rattle.rules.specs.declared.nest.OpenList.{OpenList};
 ghost use Rattle.rules.specs.Memory.{view};
 ghost use Rattle.rules.specs.Readers.{ReaderFollows, ReaderAtItem, ReaderSteps, ReaderTook, SameReader};
 ghost use Rattle.rules.specs.declared.reader.Wants.TheVariants.{Item, Figure as WantsFigure, Bracket as WantsBracket};
@@ -79,16 +80,14 @@ impl From<Word> for Wants {
 
 // A token where a word's figure is wanted.
 fn at_figure(token: Token, word: Word) -> Result<Wants, RuleFault>
-    ensures { (n : ℕ) (h : Held) (ls : List Level) (fs : List Frame) → Follows n h (WantsFigure word) ls (record { stage = wants_figure word; frames = fs }) → Steps n h result ls (at_figure token.place token.kind word fs) }
+    ensures { (n : ℕ) (h : Held) (ls : List OpenList) (fs : List Frame) → Follows n h (WantsFigure word) ls (record { stage = wants_figure word; frames = fs }) → Steps n h result ls (at_figure token.place token.kind word fs) }
 {
     let place = token.place;
-    match token.kind {
-        Kind::Number(value) => match in_range(value, 64) {
-            Some(figure) => Ok(Wants::Bracket(word.head(figure))),
-            None => Err(RuleFault::Range(place)),
-        },
-        _ => Err(RuleFault::Token(place)),
-    }
+    let Kind::Number(value) = token.kind else {
+        return Err(RuleFault::Token(place));
+    };
+    let figure = in_range(value, 64).ok_or(RuleFault::Range(place))?;
+    Ok(Wants::Bracket(word.head(figure)))
 }
 
 // A token where a list's bracket is wanted.
@@ -112,10 +111,7 @@ fn at_bracket(nest: &mut Nest, token: Token, head: Head) -> Result<Wants, RuleFa
 fn is_crowded(nest: &Nest) -> bool
     ensures { result ≡ crowded (levels nest.now) }
 {
-    match nest.last() {
-        Some(list) => list.items.is_full(),
-        None => false,
-    }
+    nest.last().is_some_and(|list| list.places.is_full())
 }
 
 // An item ends: it joins the innermost open list, or is the whole rule.
@@ -125,7 +121,7 @@ fn join(nest: &mut Nest, item: u32) -> Wants
 {
     match nest.last_mut() {
         Some(list) => {
-            list.items.push(item);
+            list.places.push(item);
             Wants::Item
         }
         None => Wants::Nothing(item),
@@ -151,13 +147,13 @@ impl<'m, 'a> Reader<'m, 'a> {
         let Some(list) = self.nest.pop() else {
             return Err(RuleFault::Token(place));
         };
-        if list.items.is_empty() {
+        if list.places.is_empty() {
             return Err(RuleFault::Token(place));
         }
-        if !list.head.fits(list.items.len()) {
+        if !list.head.fits(list.places.len()) {
             return Err(RuleFault::Shape(place));
         }
-        let item = self.terms.expand(list.head, &list.items);
+        let item = self.terms.expand(list.head, &list.places);
         Ok(join(&mut self.nest, item))
     }
 
@@ -167,9 +163,7 @@ impl<'m, 'a> Reader<'m, 'a> {
         ensures steps { (fs : List Frame) → ReaderAtItem self.old fs → ReaderSteps self.new result (at_item self.old.n place (Number value) fs) }
         ensures same { SameReader self.old self.new }
     {
-        let Some(member) = in_range(value, self.n) else {
-            return Err(RuleFault::Range(place));
-        };
+        let member = in_range(value, self.n).ok_or(RuleFault::Range(place))?;
         if is_crowded(&self.nest) {
             return Err(RuleFault::Shape(place));
         }

@@ -37,6 +37,8 @@ impl Key for TermKey {
 }
 
 // The terms of one rule, each held once. It remembers whether a term has found no place.
+// Clauses see it through `view` and by no model: proofs above use what its ghost fields say, and `key_at` is said of the keys, both of which a model would hide.
+// The flag stays a flag: the reading goes on where a term has found no place, since a fault further on in the text is told before it.
 #[derive(Drop)]
 pub struct TermMemory<'a> {
     interner: Interner<'a, TermKey>,

@@ -1,8 +1,8 @@
-ghost use Rattle.std.specs.Prelude.{◌≡◌, false, [], length, Decides};
+ghost use Rattle.std.specs.Prelude.{◌≡◌, false, length, Decides};
 ghost use Rattle.interning.specs.Chain.{room};
 ghost use Rattle.interning.specs.Model.{held};
 ghost use Rattle.interning.specs.Places.{Read};
-ghost use Rattle.rules.specs.Building.{KeyOf, Makes};
+ghost use Rattle.rules.specs.Building.{KeyOf, Makes, empty};
 ghost use Rattle.rules.specs.Memory.{view};
 ghost use Rattle.rules.specs.TermKeys.{NamesBelow};
 ghost use Rattle.rules.specs.Terms.{Term};
@@ -14,7 +14,7 @@ use interning::slot::Slot;
 impl<'a> TermMemory<'a> {
     // An empty memory over the slots.
     pub fn open(slots: &'a mut [Slot<TermKey>]) -> TermMemory<'a>
-        ensures { view result ≡ record { terms = []; room = room (length slots.old); over = false } }
+        ensures { view result ≡ empty (room (length slots.old)) }
     {
         TermMemory {
             interner: Interner::open(slots),
@@ -24,7 +24,7 @@ impl<'a> TermMemory<'a> {
 
     // Forgets every term.
     pub fn clear(&mut self)
-        ensures view { view self.new ≡ record { terms = []; room = (view self.old).room; over = false } }
+        ensures view { view self.new ≡ empty (view self.old).room }
     {
         self.interner.clear();
         self.overfull = false;
@@ -58,8 +58,7 @@ impl<'a> TermMemory<'a> {
         let len = self.len();
         match key {
             TermKey::Member(_) => true,
-            TermKey::Both(a, b) => a < len && b < len,
-            TermKey::Either(a, b) => a < len && b < len,
+            TermKey::Both(a, b) | TermKey::Either(a, b) => a < len && b < len,
         }
     }
 

@@ -1,8 +1,8 @@
-use Rattle.std.proofs.Common.{◌≡◌, [], length, map, reverse, Ok, Err, sym, refl, ap, ◌∙◌, subst, rules}
+use Rattle.std.proofs.Common.{◌≡◌, [], length, reverse, Ok, Err, sym, refl, ap, ◌∙◌, subst, rules}
 use Rattle.std.proofs.lemmas.Result.{err_from_is_err_and}
 use Rattle.rules.specs.Building.{Held}
 use Rattle.rules.specs.Following.{AtItem}
-use Rattle.rules.specs.Levels.{level, levels}
+use Rattle.rules.specs.Levels.{levels}
 use Rattle.rules.specs.Memory.{view}
 use Rattle.rules.specs.Outcome.{ReadOff}
 use Rattle.rules.specs.Reading.{run, start}
@@ -20,7 +20,7 @@ loop-lexeme-init c =
       onward = record {
         state = start;
         follows =
-            subst (λ ls. AtItem c.args.n h ls []) (sym (ap (λ xs. map level (reverse xs)) c.new.ensures))
+            subst (λ ls. AtItem c.args.n h ls []) (sym (ap reverse c.new.ensures))
             (start_follows c.args.n h (ap (λ (x : Held). x.terms) c.requires) (ap (λ (x : Held). x.over) c.requires));
         gives = ap (run c.args.n (length c.args.text.now) (Ok start)) whole;
       };

@@ -1,4 +1,4 @@
-use Rattle.std.proofs.Common.{ℕ, List, length, Ok, Err, Result, sym, refl, subst}
+use Rattle.std.proofs.Common.{ℕ, true, List, length, Ok, Err, Result, sym, refl, subst}
 use Rattle.interning.specs.declared.interner.Full.{Full}
 use Rattle.interning.specs.Decode.{decode, Rooted}
 use Rattle.interning.specs.Interned.{Interned}
@@ -7,10 +7,11 @@ use Rattle.interning.proofs.Decode.{decode_interned, length_decode}
 use Rattle.interning.proofs.Sound.{held_apart}
 use Rattle.rules.specs.declared.terms.TermKey.{TermKey}
 use Rattle.rules.specs.declared.terms.TermMemory.{TermMemory}
+use Rattle.rules.specs.Building.{Held, Makes}
 use Rattle.rules.specs.Memory.{view}
 use Rattle.rules.specs.TermKeys.{NamesBelow, tree}
 use Rattle.rules.proofs.Memories.{memory_apart}
-use Rattle.rules.proofs.Puts.{makes_known, refused_known}
+use Rattle.rules.proofs.Puts.{makes_placed, makes_refused}
 use Rattle.rules.proofs.TermTrees.{readable, rooted_out, rooted_placed}
 use Rattle.rules.proofs.terms.TermMemory.put.Goals as goal
 
@@ -41,13 +42,15 @@ invariant_of-self-in-Err c =
 pub returns-in-Ok : goal.returns-in-Ok
 returns-in-Ok c t told =
     let m = c.args.self.now in
-    makes_known (view m).terms (decode tree (held c.intern.new.self)) (capacity m.interner) (capacity c.intern.new.self) m.overfull c.in-Ok.place (tree (view m).terms c.args.key) t
-    c.if-self.false c.in-Ok.ensures.slots.capacity (told c.if-self.false).1
-    (lifted m c.args.key (Ok c.in-Ok.place) (held c.intern.new.self) (c.if-not-names.ensures.0 refl) c.in-Ok.ensures.interned)
+    let h' : Held = record { terms = decode tree (held c.intern.new.self); room = capacity c.intern.new.self; over = m.overfull } in
+    subst (Makes (view m) h' c.in-Ok.place) (told c.if-self.false).1
+    (makes_placed (view m) h' (tree (view m).terms c.args.key) c.if-self.false c.in-Ok.ensures.slots.capacity c.in-Ok.place c.if-self.false
+    (lifted m c.args.key (Ok c.in-Ok.place) (held c.intern.new.self) (c.if-not-names.ensures.0 refl) c.in-Ok.ensures.interned))
 
 pub returns-in-Err : goal.returns-in-Err
 returns-in-Err c t told =
     let m = c.args.self.now in
-    refused_known (view m).terms (decode tree (held c.intern.new.self)) (capacity m.interner) (capacity c.intern.new.self) m.overfull 0 (tree (view m).terms c.args.key) t
-    c.if-self.false c.in-Err.ensures.slots.capacity (told c.if-self.false).1 (memory_apart m)
-    (lifted m c.args.key (Err c.in-Err.field-0) (held c.intern.new.self) (c.if-not-names.ensures.0 refl) c.in-Err.ensures.interned)
+    let h' : Held = record { terms = decode tree (held c.intern.new.self); room = capacity c.intern.new.self; over = true } in
+    subst (Makes (view m) h' 0) (told c.if-self.false).1
+    (makes_refused (view m) h' (tree (view m).terms c.args.key) c.if-self.false c.in-Err.ensures.slots.capacity 0 refl (memory_apart m)
+    (lifted m c.args.key (Err c.in-Err.field-0) (held c.intern.new.self) (c.if-not-names.ensures.0 refl) c.in-Err.ensures.interned))

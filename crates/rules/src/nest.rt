@@ -1,7 +1,5 @@
 //! The lists whose brackets are open, the innermost last, each with the places of the items read so far.
 ghost use Rattle.std.specs.Prelude.{◌≡◌, []};
-ghost use Rattle.arrayvec.specs.ArrayVec.{ArrayVec as Items};
-ghost use Rattle.rules.specs.declared.words.Head.TheVariants.{All};
 
 use crate::words::Head;
 use arrayvec::ArrayVec;
@@ -16,7 +14,7 @@ pub const WIDTH: usize = 64;
 pub type Places = ArrayVec<u32, WIDTH>;
 
 // A list whose bracket is open.
-#[derive(Drop)]
+#[derive(Default, Drop)]
 pub struct OpenList {
     pub head: Head,
     pub places: Places,
@@ -31,12 +29,6 @@ impl OpenList {
             head,
             places: ArrayVec::new(),
         }
-    }
-}
-
-impl Default for OpenList {
-    fn default() -> OpenList {
-        OpenList::new(Head::All)
     }
 }
 

@@ -12,8 +12,9 @@ pub enum Word {
 }
 
 // What a list asks of its items: its word with the figure that follows it.
-#[derive(Clone, Copy, PartialEq, Eq)]
+#[derive(Clone, Copy, PartialEq, Eq, Default)]
 pub enum Head {
+    #[default]
     All,
     Any,
     Least(u8),

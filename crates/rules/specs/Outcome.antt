@@ -33,10 +33,14 @@ Comes h (Ok p) (Err g) = ⊥
 Comes h (Err f) (Ok t) = ⊥
 Comes h (Err f) (Err g) = f ≡ g
 
+-- no term is held, and none has gone without a place
+abbrev pub Empty : Held → Type 0
+Empty h = h ≡ record { terms = []; room = h.room; over = false }
+
 -- a fault leaves the memory empty
 abbrev pub Left : Held → Result ℕ RuleFault → Type 0
 Left h (Ok p) = Unit {0}
-Left h (Err f) = h ≡ record { terms = []; room = h.room; over = false }
+Left h (Err f) = Empty h
 
 -- the rule that the tokens of a text spell has been read into a memory
 abbrev pub Off : Held → Result ℕ RuleFault → Result Rule RuleFault → Type 0

@@ -1,7 +1,7 @@
 //! The reading of a rule's text: let in, with its terms in the memory, or denied with the first fault.
-ghost use Rattle.std.specs.Prelude.{◌≡◌, false, []};
+ghost use Rattle.std.specs.Prelude.{◌≡◌};
 ghost use Rattle.rules.specs.Memory.{view};
-ghost use Rattle.rules.specs.Outcome.{outcome, Comes, Left, ReadOff};
+ghost use Rattle.rules.specs.Outcome.{outcome, Comes, Empty, Left, ReadOff};
 
 use crate::faults::RuleFault;
 use crate::nest::Nest;
@@ -14,7 +14,7 @@ pub const LONGEST: usize = 4096;
 
 // Reads a text that is not too long into an empty memory; what is wanted at its end.
 fn read_tokens(text: &[u8], n: u8, terms: &mut TermMemory<'_>) -> Result<u32, RuleFault>
-    requires { view terms.old ≡ record { terms = []; room = (view terms.old).room; over = false } }
+    requires { Empty (view terms.old) }
     ensures reads { ReadOff n text.now (view terms.new) result }
     ensures room { (view terms.new).room ≡ (view terms.old).room }
 {
@@ -28,7 +28,7 @@ fn read_tokens(text: &[u8], n: u8, terms: &mut TermMemory<'_>) -> Result<u32, Ru
 
 // Reads a text into an empty memory, whatever it holds afterwards where the text is denied.
 fn read_into(text: &[u8], n: u8, terms: &mut TermMemory<'_>) -> Result<u32, RuleFault>
-    requires { view terms.old ≡ record { terms = []; room = (view terms.old).room; over = false } }
+    requires { Empty (view terms.old) }
     ensures comes { Comes (view terms.new) result (outcome n (view terms.new).room text.now) }
     ensures room { (view terms.new).room ≡ (view terms.old).room }
 {

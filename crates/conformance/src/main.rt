@@ -35,7 +35,7 @@ fn judge(
 {
     match Vector::parse(heap, line) {
         Ok(Vector { rule, told }) => {
-            let ours = Verdict::of(read(rule.as_slice(), MEMBERS, terms));
+            let ours = Verdict::from(read(rule.as_slice(), MEMBERS, terms));
             tally.compare(told, ours)
         }
         Err(LineError::Malformed) => tally.malformed(),

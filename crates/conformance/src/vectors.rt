@@ -19,6 +19,7 @@ pub enum LineError {
 impl From<FromHexError> for LineError {
     fn from(error: FromHexError) -> LineError {
         match error {
+            // `hex` has a variant of its own where the allocator refused
             FromHexError::OutOfMemory => LineError::Memory(AllocError),
             _ => LineError::Malformed,
         }
@@ -32,11 +33,11 @@ pub struct Vector {
     pub told: Verdict,
 }
 
-// The bytes that a text spells in hex; there is at least one.
+// The bytes that a text spells in hex, with small letters alone; there is at least one.
 fn spelt(heap: Global, text: &str) -> Result<Vec<u8>, LineError>
     ensures { IfOk result (λ bytes. decode_of text.now ≡ Ok bytes.items) }
 {
-    if text.is_empty() {
+    if text.is_empty() || text.as_bytes().iter().any(u8::is_ascii_uppercase) {
         return Err(LineError::Malformed);
     }
     Ok(decode(heap, text)?)

@@ -38,14 +38,16 @@ impl fmt::Display for Denial {
 #[derive(Clone, Copy, PartialEq, Eq)]
 pub struct Verdict(pub Result<(), Denial>);
 
-impl Verdict {
-    // What the reading says.
-    pub(crate) fn of(reading: Result<u32, RuleFault>) -> Verdict
-        ensures { MatchResult reading (λ _. result.0 ≡ Ok tt) (λ fault. result.0 ≡ Err (denial fault)) }
-    {
+// What the reading says.
+impl From<Result<u32, RuleFault>> for Verdict {
+    ghost from_gives = { λ reading r. MatchResult reading (λ _. r.0 ≡ Ok tt) (λ fault. r.0 ≡ Err (denial fault)) };
+
+    fn from(reading: Result<u32, RuleFault>) -> Verdict {
         Verdict(reading.map(|_| ()).map_err(Denial::from))
     }
+}
 
+impl Verdict {
     // What the press says of the rule by what it wrote: a sheet, `no N` or `no N at A`.
     pub(crate) fn told(written: &[u8]) -> Option<Verdict> {
         match written.strip_prefix(b"no ") {

@@ -39,6 +39,7 @@ const CLASSES: [Class; 256] = [
     Other, Other, Other, Other, Other, Other, Other, Other, Other, Other, Other, Other,
 ];
 
+// The class of a byte.
 impl From<u8> for Class {
     ghost from_gives = { λ byte r. r ≡ class byte };
 

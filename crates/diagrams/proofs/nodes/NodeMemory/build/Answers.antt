@@ -1,16 +1,10 @@
 use Rattle.std.proofs.Common.{sym, ◌∙◌, arith}
 use Rattle.std.proofs.lemmas.Result.{MatchResult-from_err}
 use Rattle.diagrams.specs.NodeKeys.{node_tree}
-use Rattle.diagrams.specs.Memory.{places, trees}
-use Rattle.diagrams.proofs.Built.{joins_low, key_proper, key_made, key_refused, named_none, named_some, rooted_interned, good_interned}
+use Rattle.diagrams.specs.Memory.{trees}
+use Rattle.diagrams.proofs.Built.{key_proper, key_made, key_refused, named_some, rooted_interned, good_interned}
 use Rattle.diagrams.proofs.Memories.{names_held, lifted}
 use Rattle.diagrams.proofs.nodes.NodeMemory.build.Goals as goal
-
-pub returns-then-eq-clause-joins : goal.returns-then-eq-clause-joins
-returns-then-eq-clause-joins c l h x y =
-    let m = c.args.self.now in
-    let k = c.args.node in
-    joins_low (places m) (trees m) k.member k.low k.high l h (named_none k.high c.none.result c.none.ensures (sym c.eq.ensures ∙ c.if-eq.true)) x y
 
 pub invariant_of-self : goal.invariant_of-self
 invariant_of-self c =

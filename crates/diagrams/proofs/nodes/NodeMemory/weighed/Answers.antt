@@ -2,7 +2,7 @@ use Rattle.std.proofs.Common.{arith}
 use Rattle.interning.specs.Model.{held}
 use Rattle.interning.proofs.Decode.{length_decode}
 use Rattle.diagrams.specs.NodeKeys.{node_tree}
-use Rattle.diagrams.proofs.Firsts.{bit_some, bit_weight, member_stands}
+use Rattle.diagrams.proofs.Firsts.{bit_some, member_stands}
 use Rattle.diagrams.proofs.nodes.NodeMemory.weighed.Goals as goal
 
 pub returns-in_err-node : goal.returns-in_err-node
@@ -15,10 +15,3 @@ returns-in_err-weight c =
     let m = c.args.self.now in
     let k = c.in_ok-node.node in
     absurd (bit_some c.bit.result c.from.result k.member c.in_err-weight.was c.bit.ensures c.from.ensures (member_stands m c.args.place k (c.in_ok-node.ensures m.sound)))
-
-pub returns : goal.returns
-returns c =
-    let m = c.args.self.now in
-    let k = c.in_ok-node.node in
-    let stands = c.in_ok-node.ensures m.sound in
-    (stands, bit_weight c.bit.result c.from.result k.member c.in_ok-weight.weight c.in_ok-weight.was c.bit.ensures c.from.ensures (member_stands m c.args.place k stands))

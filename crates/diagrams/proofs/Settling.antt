@@ -1,23 +1,17 @@
 -- What is held stays held where trees keep their places: answers, notes, and what open questions have done.
-use Rattle.std.proofs.Common.{◌≡◌, ℕ, List, [], ◌∷◌, ◌++◌, length, refl, ◌∙◌, inl, inr, ⊎_elim, arith}
+use Rattle.std.proofs.Common.{◌≡◌, ℕ, List, [], ◌∷◌, ◌++◌, length, ◌∙◌, inl, inr, ⊎_elim, arith}
 use Rattle.interning.specs.Distinct.{◌∈◌, Within}
 use Rattle.interning.specs.Places.{Kept}
 use Rattle.interning.proofs.Members.{in_stands, stands_in, in_left, in_right, in_either}
 use Rattle.memos.specs.declared.diagram.Diagram.{Diagram}
-use Rattle.memos.specs.declared.diagram.View.{View}
-use Rattle.memos.specs.declared.diagram.View.TheVariants.{None as Never, Always, Node as Place}
-use Rattle.memos.specs.Diagrams.{seen}
 use Rattle.memos.specs.Notes.{Note}
-use Rattle.families.specs.Trees.{Tree, none}
+use Rattle.families.specs.Trees.{Tree}
 use Rattle.families.specs.Questions.{Ask}
 use Rattle.families.specs.Scripts.{Script}
 use Rattle.families.specs.Outcomes.{run, outcome, answer}
 use Rattle.diagrams.specs.declared.solve.Pending.{Pending}
-use Rattle.diagrams.specs.NodeKeys.{Below, tree_of}
-use Rattle.diagrams.specs.Building.{Denotes}
 use Rattle.diagrams.specs.Solving.{Settled, Right, AllRight, Left, Pends, Chain}
-use Rattle.diagrams.proofs.NodeTrees.{below_rise}
-use Rattle.diagrams.proofs.FramesKept.{awaits_kept, asks_kept}
+use Rattle.diagrams.proofs.FramesKept.{awaits_kept, asks_kept, denotes_kept}
 
 -- entries of lists that are joined
 pub within_joined : (xs ys zs : List Tree) → Within xs zs → Within ys zs → Within (xs ++ ys) zs
@@ -41,19 +35,8 @@ module _ (ts ts' : List Tree) (kept : Kept ts ts') where
       let s = in_stands ts t m in
       stands_in ts' t s.0 (record { within = omega (arith, kept.longer, s.1.within); here = λ d. kept.same s.0 d s.1.within ∙ s.1.here d })
 
-  tree_kept : (w : View) → Below (length ts) w → tree_of ts' w ≡ tree_of ts w
-  tree_kept Never b = refl
-  tree_kept Always b = refl
-  tree_kept (Place p) b = kept.same p none b
-
-  pub denotes_kept : (d : Diagram) (t : Tree) → Denotes ts d t → Denotes ts' d t
-  denotes_kept d t den = record {
-    within = below_rise (length ts) (length ts') (seen d) kept.longer den.within;
-    is = tree_kept (seen d) den.within ∙ den.is;
-  }
-
   pub settled_kept : (d : Diagram) (q : Ask) → Settled ts d q → Settled ts' d q
-  settled_kept d q s = record { denotes = denotes_kept d (answer q) s.denotes; held = λ t m. kept_within t (s.held t m) }
+  settled_kept d q s = record { denotes = denotes_kept ts ts' kept d (answer q) s.denotes; held = λ t m. kept_within t (s.held t m) }
 
   pub right_kept : (n : Note) → Right ts n → Right ts' n
   right_kept n r = record { this = r.this; asks = asks_kept ts ts' kept n.0 r.this r.asks; good = r.good; settled = settled_kept n.1 r.this r.settled }

@@ -10,7 +10,7 @@ use crate::nodes::{NodeMemory, Parts};
 use memos::diagram::{Diagram, View};
 
 // What passes one of two.
-#[tactic(auto, using(crate::proofs::Sighted::sees))]
+#[tactic(auto, using(crate::proofs::Sighted::sees_either))]
 pub(super) fn sight_either(nodes: &NodeMemory<'_>, f: Diagram, g: Diagram) -> Option<Diagram>
     ensures { (s t : Tree) → Denotes (trees nodes.now) f s → Denotes (trees nodes.now) g t → Seen (trees nodes.now) result (seeing (either s t)) }
 {
@@ -23,7 +23,7 @@ pub(super) fn sight_either(nodes: &NodeMemory<'_>, f: Diagram, g: Diagram) -> Op
 }
 
 // What passes both of two.
-#[tactic(auto, using(crate::proofs::Sighted::sees))]
+#[tactic(auto, using(crate::proofs::Sighted::sees_both))]
 pub(super) fn sight_both(nodes: &NodeMemory<'_>, f: Diagram, g: Diagram) -> Option<Diagram>
     ensures { (s t : Tree) → Denotes (trees nodes.now) f s → Denotes (trees nodes.now) g t → Seen (trees nodes.now) result (seeing (both s t)) }
 {
@@ -36,7 +36,7 @@ pub(super) fn sight_both(nodes: &NodeMemory<'_>, f: Diagram, g: Diagram) -> Opti
 }
 
 // The groups of the first that contain none of the second.
-#[tactic(auto, using(crate::proofs::Sighted::sees))]
+#[tactic(auto, using(crate::proofs::Sighted::sees_less))]
 pub(super) fn sight_less(nodes: &NodeMemory<'_>, f: Diagram, g: Diagram) -> Option<Diagram>
     ensures { (s t : Tree) → Denotes (trees nodes.now) f s → Denotes (trees nodes.now) g t → Seen (trees nodes.now) result (seeing (less s t)) }
 {
@@ -50,7 +50,7 @@ pub(super) fn sight_less(nodes: &NodeMemory<'_>, f: Diagram, g: Diagram) -> Opti
 }
 
 // The smallest groups that meet every group.
-#[tactic(auto, using(crate::proofs::Sighted::sees))]
+#[tactic(auto, using(crate::proofs::Sighted::sees_turn))]
 pub(super) fn sight_turn(nodes: &NodeMemory<'_>, f: Diagram) -> Option<Diagram>
     ensures { (t : Tree) → Denotes (trees nodes.now) f t → Seen (trees nodes.now) result (seeing (turn t)) }
 {

@@ -1,13 +1,10 @@
-use Rattle.std.proofs.Common.{sym, refl, subst, arith}
+use Rattle.std.proofs.Common.{sym, subst, arith}
 use Rattle.diagrams.specs.Memory.{trees}
 use Rattle.diagrams.specs.Stacks.{stacked}
 use Rattle.diagrams.specs.Walking.{Forked}
 use Rattle.diagrams.proofs.StackLists.{stacked_length, stacked_more}
-use Rattle.diagrams.proofs.Walks.{fork_deep, fork_small, forked, past_nothing}
+use Rattle.diagrams.proofs.Walks.{fork_deep, fork_small, forked}
 use Rattle.diagrams.proofs.nodes.NodeMemory.fork.Goals as goal
-
-pub returns-in_default : goal.returns-in_default
-returns-in_default c = (past_nothing (trees c.args.self.now) c.args.branch c.in-Node.place c.in-Node.ensures c.in_default.ensures, refl)
 
 pub push-requires : goal.push-requires
 push-requires c =

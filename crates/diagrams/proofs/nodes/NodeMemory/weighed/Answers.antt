@@ -15,10 +15,3 @@ returns-in_err-weight c =
     let m = c.args.self.now in
     let k = c.in_ok-node.node in
     absurd (bit_some c.bit.result c.from.result k.member c.in_err-weight.was c.bit.ensures c.from.ensures (member_stands m c.args.place k c.in_ok-node.ensures))
-
-pub returns : goal.returns
-returns c =
-    let m = c.args.self.now in
-    let k = c.in_ok-node.node in
-    let stands = c.in_ok-node.ensures in
-    (stands, bit_weight c.bit.result c.from.result k.member c.in_ok-weight.weight c.in_ok-weight.was c.bit.ensures c.from.ensures (member_stands m c.args.place k stands))

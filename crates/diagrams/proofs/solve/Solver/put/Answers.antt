@@ -86,21 +86,11 @@ returns g c =
 pub invariant_of-self-in-Some-recall : goal.invariant_of-self-in-Some-recall
 invariant_of-self-in-Some-recall g c =
     let s = c.args.self.now in
-    let K' = g.M.Memo.keeps c.recall.new.self in
-    let ns' = g.M.Memo.notes c.recall.new.self in
     let found = c.in-Some-recall.ensures.recalled in
-    record {
-      right = recalled_right (g.M.Memo.keeps s.memo.now) K' s.nodes.now (g.M.Memo.notes s.memo.now) ns' c.args.question _ found s.right;
-      closed = recalled_closed (g.M.Memo.keeps s.memo.now) K' s.nodes.now (g.M.Memo.notes s.memo.now) ns' c.args.question _ found s.closed;
-    }
+    record { right = recalled_right _ _ s.nodes.now _ _ _ _ found s.right; closed = recalled_closed _ _ s.nodes.now _ _ _ _ found s.closed }
 
 pub invariant_of-self-2 : goal.invariant_of-self-2
 invariant_of-self-2 g c =
     let s = c.args.self.now in
-    let K' = g.M.Memo.keeps c.recall.new.self in
-    let ns' = g.M.Memo.notes c.recall.new.self in
     let missed = c.in_default-recall.ensures.recalled in
-    record {
-      right = recalled_right (g.M.Memo.keeps s.memo.now) K' s.nodes.now (g.M.Memo.notes s.memo.now) ns' c.args.question _ missed s.right;
-      closed = recalled_closed (g.M.Memo.keeps s.memo.now) K' s.nodes.now (g.M.Memo.notes s.memo.now) ns' c.args.question _ missed s.closed;
-    }
+    record { right = recalled_right _ _ s.nodes.now _ _ _ _ missed s.right; closed = recalled_closed _ _ s.nodes.now _ _ _ _ missed s.closed }

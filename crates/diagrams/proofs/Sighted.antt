@@ -199,9 +199,7 @@ module _ {t a b : Tree} {v : ℕ} (u : ℕ) (is : t ≡ node v a b) where
 -- what is used at the sight of each kind
 pub ruleset sees = (fails, seen_by, seen_open, is_never, is_ever, is_nodal)
 
-pub ruleset sees_either = (sees, none_either, either_none, always_either, either_always, either_same, either_opens)
-
-pub ruleset sees_both = (sees, none_both, both_none, always_both, both_always, both_same, both_opens)
+pub ruleset sees_order = (sees, none_either, either_none, always_either, either_always, either_same, either_opens, none_both, both_none, always_both, both_always, both_same, both_opens)
 
 pub ruleset sees_less = (sees, none_denotes, none_less, less_none, less_always, always_less, less_same, less_opens)
 

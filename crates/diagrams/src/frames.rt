@@ -11,7 +11,7 @@ ghost use Rattle.diagrams.specs.Memory.{trees};
 
 use self::begins::{begin_both, begin_either, begin_less, begin_parts, begin_turn};
 use self::resumes::{resume_both, resume_less, resume_turn};
-use self::sights::{sight_both, sight_either, sight_less, sight_parts, sight_turn};
+use self::sights::{sight_less, sight_order, sight_parts, sight_turn};
 use crate::node::Node;
 use crate::nodes::NodeMemory;
 use memos::diagram::Diagram;
@@ -132,8 +132,8 @@ pub(crate) fn sight(nodes: &NodeMemory<'_>, question: Question) -> Option<Diagra
     ensures { (q : Ask) → Asks (trees nodes.now) question q → Seen (trees nodes.now) result (seeing q) }
 {
     match question {
-        Question::Either(f, g) => sight_either(nodes, f, g),
-        Question::Both(f, g) => sight_both(nodes, f, g),
+        Question::Either(f, g) => sight_order(nodes, f, g).map(|(_, more)| more),
+        Question::Both(f, g) => sight_order(nodes, f, g).map(|(less, _)| less),
         Question::Less(f, g) => sight_less(nodes, f, g),
         Question::Turn(f) => sight_turn(nodes, f),
         Question::Off(f, away) => sight_parts(nodes, f, away).map(|parts| parts.low),

@@ -9,28 +9,16 @@ ghost use Rattle.diagrams.specs.Memory.{trees};
 use crate::nodes::{NodeMemory, Parts};
 use memos::diagram::{Diagram, View};
 
-// What passes one of two.
-#[tactic(auto, using(crate::proofs::Sighted::sees_either))]
-pub(super) fn sight_either(nodes: &NodeMemory<'_>, f: Diagram, g: Diagram) -> Option<Diagram>
-    ensures { (s t : Tree) → Denotes (trees nodes.now) f s → Denotes (trees nodes.now) g t → Seen (trees nodes.now) result (seeing (either s t)) }
+// Two diagrams, the one that passes less first, where it is seen: the first is what passes both, the second what passes one of them.
+#[tactic(auto, using(crate::proofs::Sighted::sees_order))]
+pub(super) fn sight_order(nodes: &NodeMemory<'_>, f: Diagram, g: Diagram) -> Option<(Diagram, Diagram)>
+    ensures less { (s t : Tree) → Denotes (trees nodes.now) f s → Denotes (trees nodes.now) g t → Seen (trees nodes.now) (option_map (λ p. p.0) result) (seeing (both s t)) }
+    ensures more { (s t : Tree) → Denotes (trees nodes.now) f s → Denotes (trees nodes.now) g t → Seen (trees nodes.now) (option_map (λ p. p.1) result) (seeing (either s t)) }
 {
     match (f.view(), g.view()) {
-        (View::None, _) | (_, View::Always) => Some(g),
-        (_, View::None) | (View::Always, _) => Some(f),
-        _ if nodes.same(f, g) => Some(f),
-        _ => None,
-    }
-}
-
-// What passes both of two.
-#[tactic(auto, using(crate::proofs::Sighted::sees_both))]
-pub(super) fn sight_both(nodes: &NodeMemory<'_>, f: Diagram, g: Diagram) -> Option<Diagram>
-    ensures { (s t : Tree) → Denotes (trees nodes.now) f s → Denotes (trees nodes.now) g t → Seen (trees nodes.now) result (seeing (both s t)) }
-{
-    match (f.view(), g.view()) {
-        (View::None, _) | (_, View::Always) => Some(f),
-        (_, View::None) | (View::Always, _) => Some(g),
-        _ if nodes.same(f, g) => Some(f),
+        (View::None, _) | (_, View::Always) => Some((f, g)),
+        (_, View::None) | (View::Always, _) => Some((g, f)),
+        _ if nodes.same(f, g) => Some((f, f)),
         _ => None,
     }
 }

@@ -14,6 +14,11 @@ use Rattle.families.specs.Scripts.{Script, builds, script}
 use Rattle.families.specs.Outcomes.{made, outcome}
 use Rattle.families.specs.Meanings.{GoodAsk}
 use Rattle.families.proofs.Solving.{good_ask_member}
+use Rattle.diagrams.specs.declared.frames.Frame.{Frame}
+use Rattle.diagrams.specs.declared.frames.Frame.TheVariants.{EitherLow, Both as InBoth, Less as InLess, Turn as InTurn, Low, Highs, High}
+use Rattle.diagrams.specs.declared.frames.BothFrame.TheVariants.{Low as BothLow, HighHigh as BothHighHigh, HighLow as BothHighLow, Join as BothJoin, LowHigh as BothLowHigh}
+use Rattle.diagrams.specs.declared.frames.LessFrame.TheVariants.{Low as LessLow, High as LessHigh}
+use Rattle.diagrams.specs.declared.frames.TurnFrame.TheVariants.{Low as TurnLow, High as TurnHigh, Both as TurnBoth}
 use Rattle.diagrams.specs.declared.frames.Wait.{Wait}
 use Rattle.diagrams.specs.declared.node.Node.{Node}
 use Rattle.diagrams.specs.declared.solve.Step.TheVariants.{Ask as Asking, Answer as Answering}
@@ -26,6 +31,23 @@ use Rattle.diagrams.proofs.Built.{build_is}
 use Rattle.diagrams.proofs.Settling.{within_joined, within_right, kept_within, right_kept, chain_kept}
 use Rattle.diagrams.proofs.Scripted.{split_below, left_begins, left_inside, left_part, built_good, built_answer, built_cover, built_others, built_part}
 use Rattle.diagrams.proofs.Measured.{asking_falls, answering_falls}
+
+-- no frame has more than six questions ahead
+ahead_few : (f : Frame) → ahead f ≤ 6
+ahead_few (EitherLow v f1 g1) = omega arith
+ahead_few (InBoth (BothLow p)) = omega arith
+ahead_few (InBoth (BothHighHigh p low)) = omega arith
+ahead_few (InBoth (BothHighLow p low first)) = omega arith
+ahead_few (InBoth (BothJoin p low)) = omega arith
+ahead_few (InBoth (BothLowHigh v low first)) = omega arith
+ahead_few (InLess (LessLow v f1 g0 g1)) = omega arith
+ahead_few (InLess (LessHigh v low g0)) = omega arith
+ahead_few (InTurn (TurnLow v f1)) = omega arith
+ahead_few (InTurn (TurnHigh v turned)) = omega arith
+ahead_few (InTurn (TurnBoth v turned)) = omega arith
+ahead_few (Low v high) = omega arith
+ahead_few (Highs v low) = omega arith
+ahead_few (High v low) = omega arith
 
 -- the stack has a place for a question that is opened
 pub put_deep : (ts : List Tree) (question : Question) (n : ℕ) (a : Puttable ts n question) → sight a.this ≡ opens → (n < split_at a.this) × (n < 48)
@@ -88,10 +110,11 @@ module _ (ts : List Tree) (T T' : Ask → Type 0) (more : (r : Ask) → T r → 
 
   -- a question is opened
   pub put_opens : (question : Question) (xs ys : List Pending) (a : Puttable ts (length xs) question) → sight a.this ≡ opens
-      → (w : Wait) → ahead w.frame ≤ 6 → Waits ts w (script a.this) → ys ≡ record { question = question; frame = w.frame } ∷ xs
+      → (w : Wait) → Waits ts w (script a.this) → ys ≡ record { question = question; frame = w.frame } ∷ xs
       → Steps ts T ts T' (ask_at ts question) xs ys (8 * span (48 - length xs) + weight xs) (Asking w.question)
-  put_opens question xs ys a unseen w few waits e =
+  put_opens question xs ys a unseen w waits e =
       let q = a.this in
+      let few = ahead_few w.frame in
       let good = good_ask_member a.from q a.good in
       subst (λ z. Steps ts T ts T' z xs ys (8 * span (48 - length xs) + weight xs) (Asking w.question)) (sym a.asks.is)
       (step_waits q question a.asks good unseen w xs ys 8 (script q) (put_deep ts question (length xs) a unseen).0 (omega arith) (left_begins ts T' q good unseen) waits e)

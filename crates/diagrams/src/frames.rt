@@ -1,6 +1,6 @@
 //! Open questions. A question that is not answered at sight asks further ones, one after the other, and builds its answer from theirs.
 //! A frame is an open question between two of these, and holds what it still needs.
-ghost use Rattle.std.specs.Prelude.{◌≡◌, ◌≤◌, List};
+ghost use Rattle.std.specs.Prelude.{◌≡◌, List};
 ghost use Rattle.families.specs.Trees.{Tree};
 ghost use Rattle.families.specs.Questions.{Ask, sight as seeing, opens};
 ghost use Rattle.families.specs.Scripts.{Script, script};
@@ -143,8 +143,7 @@ pub(crate) fn sight(nodes: &NodeMemory<'_>, question: Question) -> Option<Diagra
 
 // Opens a question: what it waits for first.
 pub(crate) fn begin(nodes: &NodeMemory<'_>, question: Question) -> Wait
-    ensures waits { (q : Ask) → Asks (trees nodes.now) question q → seeing q ≡ opens → Waits (trees nodes.now) result (script q) }
-    ensures few { ahead result.frame ≤ 6 }
+    ensures { (q : Ask) → Asks (trees nodes.now) question q → seeing q ≡ opens → Waits (trees nodes.now) result (script q) }
 {
     match question {
         Question::Either(f, g) => begin_either(nodes, f, g),

@@ -5,7 +5,7 @@ ghost use Rattle.families.specs.Questions.{Ask as Asked};
 ghost use Rattle.families.specs.Meanings.{GoodAsk};
 ghost use Rattle.diagrams.specs.declared.solve.Step.TheVariants.{Ask as Asking, Answer as Answering};
 ghost use Rattle.diagrams.specs.Asking.{Asks, ask_at};
-ghost use Rattle.diagrams.specs.Memory.{places, trees};
+ghost use Rattle.diagrams.specs.Memory.{SameMemory, places, trees};
 ghost use Rattle.diagrams.specs.Solving.{AllRight, Closed, CountsOn, Due, Grows, Puttable, Steps, Takes, TalliedOut, WorkedOut, load, told};
 ghost use Rattle.diagrams.specs.Stacks.{stacked};
 
@@ -98,8 +98,7 @@ impl<'n, 'a, 'm, M: Memo> Solver<'n, 'a, 'm, M> {
         ensures counts { OnOk result (CountsOn (M.Memo.keeps self.old.memo.now) (M.Memo.keeps self.new.memo.now) (trees self.old.nodes.now) (M.Memo.notes self.old.memo.now) (trees self.new.nodes.now) (M.Memo.notes self.new.memo.now) (ask_at (trees self.old.nodes.now) newest.question) (stacked self.old.stack) (newest ∷ stacked self.old.stack) (stacked self.new.stack) self.old.opened self.new.opened) }
         ensures already { M.Memo.keeps self.new.memo.now → M.Memo.keeps self.old.memo.now }
         ensures takes { Takes (places self.old.nodes.now) (trees self.old.nodes.now) (told (M.Memo.keeps self.old.memo.now) (trees self.old.nodes.now) (M.Memo.notes self.old.memo.now)) (trees self.new.nodes.now) (told (M.Memo.keeps self.new.memo.now) (trees self.new.nodes.now) (M.Memo.notes self.new.memo.now)) (ask_at (trees self.old.nodes.now) newest.question) (stacked self.old.stack) (stacked self.new.stack) (load (newest ∷ stacked self.old.stack) (Answering answer)) result }
-        ensures places { places self.new.nodes.now ≡ places self.old.nodes.now }
-        ensures named { self.new.nodes.now.interner.slots.ghost_name ≡ self.old.nodes.now.interner.slots.ghost_name }
+        ensures same { SameMemory self.old.nodes.now self.new.nodes.now }
     {
         let question = newest.question;
         match frames::resume(newest.frame, answer) {
@@ -129,8 +128,7 @@ impl<'n, 'a, 'm, M: Memo> Solver<'n, 'a, 'm, M> {
         ensures opened { M.Memo.keeps self.new.memo.now → (q : Asked) → Asks (trees self.old.nodes.now) question q → TalliedOut (trees self.old.nodes.now) (M.Memo.notes self.old.memo.now) (trees self.new.nodes.now) (M.Memo.notes self.new.memo.now) q result self.new.opened }
         ensures already { M.Memo.keeps self.new.memo.now → M.Memo.keeps self.old.memo.now }
         ensures grows { (q : Asked) → Asks (trees self.old.nodes.now) question q → Grows (trees self.old.nodes.now) (trees self.new.nodes.now) q }
-        ensures places { places self.new.nodes.now ≡ places self.old.nodes.now }
-        ensures named { self.new.nodes.now.interner.slots.ghost_name ≡ self.old.nodes.now.interner.slots.ghost_name }
+        ensures same { SameMemory self.old.nodes.now self.new.nodes.now }
     {
         let mut step = Step::Ask(question);
         loop {
@@ -158,8 +156,7 @@ pub fn solve<M: Memo>(nodes: &mut NodeMemory<'_>, memo: &mut M, question: Questi
     ensures closed { M.Memo.keeps memo.new → Closed (trees nodes.new) (M.Memo.notes memo.new) }
     ensures grows { (q : Asked) → Asks (trees nodes.old) question q → Grows (trees nodes.old) (trees nodes.new) q }
     ensures notes { AllRight (trees nodes.new) (M.Memo.notes memo.new) }
-    ensures places { places nodes.new ≡ places nodes.old }
-    ensures named { nodes.new.interner.slots.ghost_name ≡ nodes.old.interner.slots.ghost_name }
+    ensures same { SameMemory nodes.old nodes.new }
 {
     let mut solver = Solver {
         nodes,

@@ -1,10 +1,9 @@
 //! What an opened question of each kind waits for first: the answer on the low parts.
-ghost use Rattle.std.specs.Prelude.{◌≤◌};
 ghost use Rattle.families.specs.Trees.{Tree};
 ghost use Rattle.families.specs.Questions.{Ask, either, both, less, turn, top, low_at, high_at};
 ghost use Rattle.families.specs.Scripts.{script, ask, builds};
 ghost use Rattle.diagrams.specs.Building.{Denotes};
-ghost use Rattle.diagrams.specs.Frames.{AsksAs, Halved, Waits, ahead};
+ghost use Rattle.diagrams.specs.Frames.{AsksAs, Halved, Waits};
 ghost use Rattle.diagrams.specs.Memory.{trees};
 
 use super::{BothFrame, Frame, Halves, LessFrame, TurnFrame, Wait};
@@ -31,8 +30,7 @@ fn split(nodes: &NodeMemory<'_>, f: Diagram, g: Diagram) -> Halves
 // What passes one of two.
 #[tactic(auto, using(crate::proofs::Begun::begins_either))]
 pub(super) fn begin_either(nodes: &NodeMemory<'_>, f: Diagram, g: Diagram) -> Wait
-    ensures waits { (s t : Tree) → Denotes (trees nodes.now) f s → Denotes (trees nodes.now) g t → Waits (trees nodes.now) result (script (either s t)) }
-    ensures few { ahead result.frame ≤ 6 }
+    ensures { (s t : Tree) → Denotes (trees nodes.now) f s → Denotes (trees nodes.now) g t → Waits (trees nodes.now) result (script (either s t)) }
 {
     let halves = split(nodes, f, g);
     Wait {
@@ -48,8 +46,7 @@ pub(super) fn begin_either(nodes: &NodeMemory<'_>, f: Diagram, g: Diagram) -> Wa
 // What passes both of two.
 #[tactic(auto, using(crate::proofs::Begun::begins_both))]
 pub(super) fn begin_both(nodes: &NodeMemory<'_>, f: Diagram, g: Diagram) -> Wait
-    ensures waits { (s t : Tree) → Denotes (trees nodes.now) f s → Denotes (trees nodes.now) g t → Waits (trees nodes.now) result (script (both s t)) }
-    ensures few { ahead result.frame ≤ 6 }
+    ensures { (s t : Tree) → Denotes (trees nodes.now) f s → Denotes (trees nodes.now) g t → Waits (trees nodes.now) result (script (both s t)) }
 {
     let halves = split(nodes, f, g);
     Wait {
@@ -61,8 +58,7 @@ pub(super) fn begin_both(nodes: &NodeMemory<'_>, f: Diagram, g: Diagram) -> Wait
 // The groups of the first that contain none of the second.
 #[tactic(auto, using(crate::proofs::Begun::begins_less))]
 pub(super) fn begin_less(nodes: &NodeMemory<'_>, f: Diagram, g: Diagram) -> Wait
-    ensures waits { (s t : Tree) → Denotes (trees nodes.now) f s → Denotes (trees nodes.now) g t → Waits (trees nodes.now) result (script (less s t)) }
-    ensures few { ahead result.frame ≤ 6 }
+    ensures { (s t : Tree) → Denotes (trees nodes.now) f s → Denotes (trees nodes.now) g t → Waits (trees nodes.now) result (script (less s t)) }
 {
     let halves = split(nodes, f, g);
     Wait {
@@ -79,8 +75,7 @@ pub(super) fn begin_less(nodes: &NodeMemory<'_>, f: Diagram, g: Diagram) -> Wait
 // The smallest groups that stop a family.
 #[tactic(auto, using(crate::proofs::Begun::begins_turn))]
 pub(super) fn begin_turn(nodes: &NodeMemory<'_>, f: Diagram) -> Wait
-    ensures waits { (t : Tree) → Denotes (trees nodes.now) f t → Waits (trees nodes.now) result (script (turn t)) }
-    ensures few { ahead result.frame ≤ 6 }
+    ensures { (t : Tree) → Denotes (trees nodes.now) f t → Waits (trees nodes.now) result (script (turn t)) }
 {
     let member = nodes.top(f);
     let f = nodes.parts(f, member);
@@ -98,8 +93,7 @@ pub(super) fn begin_parts<F: Fn(Diagram) -> Question>(
     of: F,
 ) -> Wait
     requires { F.IsAlwaysCallable of }
-    ensures waits { (q : Tree → Ask) → AsksAs (trees nodes.now) (F.post of) q → (t : Tree) → Denotes (trees nodes.now) f t → Waits (trees nodes.now) result (ask (q (low_at (top t) t)) (λ l. ask (q (high_at (top t) t)) (λ h. builds (top t) l h))) }
-    ensures few { ahead result.frame ≤ 6 }
+    ensures { (q : Tree → Ask) → AsksAs (trees nodes.now) (F.post of) q → (t : Tree) → Denotes (trees nodes.now) f t → Waits (trees nodes.now) result (ask (q (low_at (top t) t)) (λ l. ask (q (high_at (top t) t)) (λ h. builds (top t) l h))) }
 {
     let member = nodes.top(f);
     let f = nodes.parts(f, member);

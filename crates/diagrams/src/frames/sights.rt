@@ -11,7 +11,11 @@ use memos::diagram::{Diagram, View};
 
 // Two diagrams, the one that passes less first, where it is seen: the first is what passes both, the second what passes one of them.
 #[tactic(auto, using(crate::proofs::Sighted::sees_order))]
-pub(super) fn sight_order(nodes: &NodeMemory<'_>, f: Diagram, g: Diagram) -> Option<(Diagram, Diagram)>
+pub(super) fn sight_order(
+    nodes: &NodeMemory<'_>,
+    f: Diagram,
+    g: Diagram,
+) -> Option<(Diagram, Diagram)>
     ensures less { (s t : Tree) → Denotes (trees nodes.now) f s → Denotes (trees nodes.now) g t → Seen (trees nodes.now) (option_map (λ p. p.0) result) (seeing (both s t)) }
     ensures more { (s t : Tree) → Denotes (trees nodes.now) f s → Denotes (trees nodes.now) g t → Seen (trees nodes.now) (option_map (λ p. p.1) result) (seeing (either s t)) }
 {

@@ -3,7 +3,7 @@
 ghost use Rattle.std.specs.Prelude.{◌≡◌};
 ghost use Rattle.families.specs.Trees.{Tree};
 ghost use Rattle.diagrams.specs.Building.{Denotes, Fitting, Joins};
-ghost use Rattle.diagrams.specs.Memory.{places, trees};
+ghost use Rattle.diagrams.specs.Memory.{SameMemory, places, trees};
 
 use super::NodeMemory;
 use crate::node::Node;
@@ -15,8 +15,7 @@ impl<'a> NodeMemory<'a> {
     pub(crate) fn build(&mut self, node: Node) -> Result<Diagram, Full>
         requires fitting { Fitting (trees self.old) node }
         ensures joins { (l h : Tree) → Denotes (trees self.old) node.low l → Denotes (trees self.old) node.high h → Joins (places self.old) (trees self.old) node.member l h result (trees self.new) }
-        ensures places { places self.new ≡ places self.old }
-        ensures named { self.new.interner.slots.ghost_name ≡ self.old.interner.slots.ghost_name }
+        ensures same { SameMemory self.old self.new }
     {
         if node.high == Diagram::none() {
             return Ok(node.low);

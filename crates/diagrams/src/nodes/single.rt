@@ -1,7 +1,7 @@
 //! The family of one member: its only group is that member alone.
 ghost use Rattle.std.specs.Prelude.{◌≡◌};
 ghost use Rattle.diagrams.specs.Building.{Makes, single_made, single_tree};
-ghost use Rattle.diagrams.specs.Memory.{places, trees};
+ghost use Rattle.diagrams.specs.Memory.{SameMemory, places, trees};
 
 use super::NodeMemory;
 use crate::node::Node;
@@ -12,8 +12,7 @@ impl<'a> NodeMemory<'a> {
     // The diagram of a member alone, and of no group where the number is no member.
     pub fn single(&mut self, member: u8) -> Result<Diagram, Full>
         ensures makes { Makes (places self.old) (trees self.old) (single_tree member) (single_made member) result (trees self.new) }
-        ensures places { places self.new ≡ places self.old }
-        ensures named { self.new.interner.slots.ghost_name ≡ self.old.interner.slots.ghost_name }
+        ensures same { SameMemory self.old self.new }
     {
         if !(1..=48).contains(&member) {
             return Ok(Diagram::none());

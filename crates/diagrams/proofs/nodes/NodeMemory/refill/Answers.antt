@@ -30,7 +30,7 @@ loop-place-preserved c =
     let inv = c.loop-place.invariant in
     let next = moved_next c.args.self.now c.args.cells.now c.loop-place.cells c.requires.closed c.requires.copied inv.stay c.loop-place.place (omega arith) c.in-Some.node c.in-Some.is (trees c.loop-place.self) inv.moved _ _ c.moved-low.ensures c.moved-high.ensures (places c.loop-place.self) c.build.result (trees c.build.new.self) c.build.ensures.joins c.unwrap-diagram.result c.unwrap-diagram.ensures (simp length-map (omega arith)) in
     record {
-      same = record { room = c.build.ensures.places ∙ inv.same.room; named = c.build.ensures.named ∙ inv.same.named };
+      same = record { room = c.build.ensures.same.room ∙ inv.same.room; named = c.build.ensures.same.named ∙ inv.same.named };
       stay = map-set_same _ c.loop-place.cells _ _ blank refl ∙ inv.stay;
       moved = subst (Moved (trees c.args.self.now) (marks c.args.cells.now) (c.loop-place.place + 1) (trees c.build.new.self)) (sym (map-set _ c.loop-place.cells _ _)) next;
     }

@@ -2,7 +2,7 @@ use Rattle.std.proofs.Common.{arith}
 use Rattle.interning.specs.Model.{held}
 use Rattle.interning.proofs.Decode.{length_decode}
 use Rattle.diagrams.specs.NodeKeys.{node_tree}
-use Rattle.diagrams.proofs.Firsts.{bit_some, bit_weight, member_stands}
+use Rattle.diagrams.proofs.Firsts.{bit_some, member_stands}
 use Rattle.diagrams.proofs.nodes.NodeMemory.weighed.Goals as goal
 
 pub returns-in_err-node : goal.returns-in_err-node

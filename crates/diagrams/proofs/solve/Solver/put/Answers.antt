@@ -80,7 +80,7 @@ returns g c =
       notes = missed.notes;
       counts = opened_counts K K' m ns ns' q x xs ys a unseen missed c.args.self.now.opened c.saturating_add-self.result c.saturating_add-self.ensures refl (stacked_more c.args.self.now.stack c.push.new.self x c.push.ensures.items);
       already = missed.already;
-      steps = put_opens (trees m) (told K (trees m) ns) (told K' (trees m) ns') (recalled_more K K' m ns ns' q _ missed) q xs ys a unseen c.begin-wait.result begun.few (begun.waits a.this a.asks unseen) (stacked_more c.args.self.now.stack c.push.new.self x c.push.ensures.items);
+      steps = put_opens (trees m) (told K (trees m) ns) (told K' (trees m) ns') (recalled_more K K' m ns ns' q _ missed) q xs ys a unseen c.begin-wait.result (begun a.this a.asks unseen) (stacked_more c.args.self.now.stack c.push.new.self x c.push.ensures.items);
     }
 
 pub invariant_of-self-in-Some-recall : goal.invariant_of-self-in-Some-recall

@@ -5,7 +5,7 @@ use Rattle.families.specs.Trees.{Tree}
 use Rattle.families.specs.Questions.{Ask as Asked}
 use Rattle.families.specs.Outcomes.{outcome}
 use Rattle.std.proofs.lemmas.Result.{MatchResult-from_err}
-use Rattle.diagrams.specs.Memory.{places, trees}
+use Rattle.diagrams.specs.Memory.{SameMemory, places, trees}
 use Rattle.diagrams.specs.declared.nodes.NodeMemory.{NodeMemory}
 use Rattle.diagrams.specs.declared.solve.Step.TheVariants.{Ask as Asking}
 use Rattle.diagrams.specs.Solving.{Settled, Tallied, Works, load, needed}
@@ -25,8 +25,7 @@ pub loop-step-init : goal.loop-step-init
 loop-step-init g c = (
   works_start (g.M.Memo.keeps c.args.self.now.memo.now) (trees c.args.self.now.nodes.now) (g.M.Memo.notes c.args.self.now.memo.now) c.args.question (stacked c.args.self.now.stack) c.args.self.now.opened c.requires.none_open c.requires.none_opened c.requires.asks (closed_out (trees c.args.self.now.nodes.now) (g.M.Memo.notes c.args.self.now.memo.now) (right_out (trees c.args.self.now.nodes.now) (g.M.Memo.notes c.args.self.now.memo.now) c.args.self.now.right) c.args.self.now.closed),
   (λ k. k),
-  refl,
-  refl,
+  record { room = refl; named = refl },
   refl,
   refl,
 )
@@ -56,8 +55,7 @@ loop-step-preserved-in-Ask g c =
     (λ (nodes : MutBor NodeMemory).
     Works K (trees start.nodes.now) (g.M.Memo.notes start.memo.now) (trees nodes.now) ns (Asking c.args.question) xs n c.put-step.result
     × (K → g.M.Memo.keeps start.memo.now)
-    × (places nodes.now ≡ places start.nodes.now)
-    × (nodes.now.interner.slots.ghost_name ≡ start.nodes.now.interner.slots.ghost_name)
+    × SameMemory start.nodes.now nodes.now
     × (nodes.ghost_name ≡ start.nodes.ghost_name)
     × (c.put-step.new.self.memo.ghost_name ≡ start.memo.ghost_name))
     (sym put.nodes) (
@@ -65,8 +63,7 @@ loop-step-preserved-in-Ask g c =
       (λ k. i.1 (put.already k)),
       i.2,
       i.3,
-      i.4,
-      put.memo ∙ i.5,
+      put.memo ∙ i.4,
     )
 
 pub returns-in_default-clause-answer : goal.returns-in_default-clause-answer
@@ -79,7 +76,7 @@ returns-in_default-clause-answer g c q a =
     let arrives = works_ended _ ts ns ts' _ _ _ _ _ i.0 c.in-Answer.answer c.in-Answer.is ended in
     let m = c.loop-step.self.nodes.now in
     let cap = places c.args.self.now.nodes.now in
-    let enough = works_enough _ ts ns ts' _ _ _ _ _ i.0 c.in-Answer.answer c.in-Answer.is ended cap (apart_once ts' (memory_apart m)) (subst (λ n. length ts' ≤ n) i.2 (memory_fits m)) in
+    let enough = works_enough _ ts ns ts' _ _ _ _ _ i.0 c.in-Answer.answer c.in-Answer.is ended cap (apart_once ts' (memory_apart m)) (subst (λ n. length ts' ≤ n) i.2.room (memory_fits m)) in
     subst (Affords cap ts ts' c.in-Answer.answer) (asks_once ts c.args.question i.0.final q i.0.starts a) (arrives.settled, enough)
 
 pub returns-in_default-clause-opened : goal.returns-in_default-clause-opened
@@ -111,10 +108,9 @@ loop-step-preserved g c =
     let memo = c.take.new.self.memo.now in (
       works_taken _ _ _ _ _ _ _ _ _ i.0 c.in-Answer.answer c.in-Answer.is c.in-Some.newest _ (stacked_more c.pop.new.self c.loop-step.self.stack c.in-Some.newest c.in-Some.ensures.items) (g.M.Memo.keeps memo) (trees c.take.new.self.nodes.now) (g.M.Memo.notes memo) (stacked c.take.new.self.stack) c.take.new.self.opened _ c.in_ok-step-in-Answer.step taken.already taken.counts taken.grows taken.takes,
       (λ k. i.1 (taken.already k)),
-      taken.places ∙ i.2,
-      taken.named ∙ i.3,
-      taken.nodes ∙ i.4,
-      taken.memo ∙ i.5,
+      record { room = taken.same.room ∙ i.2.room; named = taken.same.named ∙ i.2.named },
+      taken.nodes ∙ i.3,
+      taken.memo ∙ i.4,
     )
 
 pub returns-in_err-step-in-Answer-clause-answer : goal.returns-in_err-step-in-Answer-clause-answer
@@ -126,4 +122,4 @@ returns-in_err-step-in-Answer-clause-answer g c q a =
     let newest = stacked_more c.pop.new.self c.loop-step.self.stack c.in-Some.newest c.in-Some.ensures.items in
     let short = works_short _ ts _ ts' _ _ _ _ _ i.0 c.in-Answer.answer c.in-Answer.is c.in-Some.newest _ newest (places c.loop-step.self.nodes.now) (trees c.take.new.self.nodes.now) once c.in_err-step-in-Answer.ensures.takes in
     MatchResult-from_err c.from_residual.result _ _ c.from_residual.ensures.0 (λ _.
-    subst (λ (p : Asked). places c.args.self.now.nodes.now < needed ts p) (asks_once ts c.args.question i.0.final q i.0.starts a) (subst (λ n. n < needed ts i.0.final) i.2 short))
+    subst (λ (p : Asked). places c.args.self.now.nodes.now < needed ts p) (asks_once ts c.args.question i.0.final q i.0.starts a) (subst (λ n. n < needed ts i.0.final) i.2.room short))

@@ -1,5 +1,5 @@
 use Rattle.std.proofs.Common.{◌≡◌}
-use Rattle.diagrams.specs.Memory.{places, trees}
+use Rattle.diagrams.specs.Memory.{SameMemory, trees}
 use Rattle.diagrams.specs.Solving.{Works, load}
 use Rattle.diagrams.specs.Stacks.{stacked}
 use Rattle.diagrams.proofs.solve.Solver.run.Given as goal
@@ -8,8 +8,7 @@ abbrev pub invariant-loop-step : goal.invariant-loop-step
 invariant-loop-step g l =
     Works (g.M.Memo.keeps l.self.memo.now) (trees l.initial.self.nodes.now) (g.M.Memo.notes l.initial.self.memo.now) (trees l.self.nodes.now) (g.M.Memo.notes l.self.memo.now) l.initial.step (stacked l.self.stack) l.self.opened l.step
     × (g.M.Memo.keeps l.self.memo.now → g.M.Memo.keeps l.initial.self.memo.now)
-    × (places l.self.nodes.now ≡ places l.initial.self.nodes.now)
-    × (l.self.nodes.now.interner.slots.ghost_name ≡ l.initial.self.nodes.now.interner.slots.ghost_name)
+    × SameMemory l.initial.self.nodes.now l.self.nodes.now
     × (l.self.nodes.ghost_name ≡ l.initial.self.nodes.ghost_name)
     × (l.self.memo.ghost_name ≡ l.initial.self.memo.ghost_name)
 

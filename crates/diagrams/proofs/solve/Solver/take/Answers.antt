@@ -46,10 +46,9 @@ returns-in_err-built-in-Done g c =
       counts = MatchResult-from_err c.from_residual.result _ _ c.from_residual.ensures.0 (λ _. tt);
       already = λ k. k;
       takes = MatchResult-from_err c.from_residual.result _ _ c.from_residual.ensures.0 (λ _. lacks);
-      places = joined.places;
+      same = joined.same;
       nodes = refl;
       memo = refl;
-      named = joined.named;
     }
 
 pub returns-in-Wait : goal.returns-in-Wait
@@ -69,10 +68,9 @@ returns-in-Wait g c =
       counts = λ k us ms final chain t. subst (λ zs. Tally us ms ts ns final zs c.args.self.now.opened) (sym (stacked_more c.args.self.now.stack c.push.new.self y c.push.ensures.items)) (tally_waits us ms ts ns final x y xs c.args.self.now.opened refl t);
       already = λ k. k;
       takes = take_waits ts (told K ts ns) xs x c.args.answer due c.in-Wait.wait ys waits resumed.fewer (stacked_more c.args.self.now.stack c.push.new.self y c.push.ensures.items);
-      places = refl;
+      same = record { room = refl; named = refl };
       nodes = refl;
       memo = refl;
-      named = refl;
     }
 
 pub returns-in_ok-built-in-Done : goal.returns-in_ok-built-in-Done
@@ -98,10 +96,9 @@ returns-in_ok-built-in-Done g c =
       counts = ends_counts K K' ts ns xs x c.args.answer due k b ts' d j ns' all noted c.args.self.now.opened;
       already = noted.already;
       takes = ends_steps K K' ts ns xs x c.args.answer due k b ts' d j ns' all noted;
-      places = joined.places;
+      same = joined.same;
       nodes = refl;
       memo = refl;
-      named = joined.named;
     }
 
 pub invariant_of-self-in-Break-1 : goal.invariant_of-self-in-Break-1

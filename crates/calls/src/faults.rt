@@ -63,7 +63,7 @@ impl Fault {
         }
     }
 
-    // The layer of a fault that has a place.
+    // The layer of a fault that has a place. Beside `place`, which asks the rule's fault otherwise: one function for both would take a closure and be longer.
     pub fn layer(self) -> Option<Layer>
         ensures { result ≡ layer self }
     {

@@ -7,6 +7,7 @@ use Rattle.interning.specs.Model.{held}
 use Rattle.interning.specs.Places.{Apart, Each, Stands}
 use Rattle.interning.proofs.Decode.{decode_apart, decode_at, decode_each, decode_interned, length_decode}
 use Rattle.interning.proofs.Sound.{held_apart, held_fits}
+use Rattle.memos.proofs.Diagrams.{seen_alike}
 use Rattle.memos.specs.declared.diagram.Diagram.{Diagram}
 use Rattle.memos.specs.declared.diagram.View.{View}
 use Rattle.memos.specs.declared.diagram.View.TheVariants.{None, Always, Node as Place}
@@ -19,7 +20,7 @@ use Rattle.diagrams.specs.NodeKeys.{Below, NamesBelow, tree_of, node_tree}
 use Rattle.diagrams.specs.Memory.{trees, places}
 use Rattle.diagrams.specs.Building.{Denotes}
 use Rattle.diagrams.proofs.GoodTrees.{each_out}
-use Rattle.diagrams.proofs.NodeTrees.{Nodal, readable, rooted_out, below_rise, seen_told, view_told}
+use Rattle.diagrams.proofs.NodeTrees.{Nodal, readable, rooted_out, below_rise, view_told}
 
 view_good : (ts : List Tree) → Each Proper ts → (v : View) → Below (length ts) v → Good 1 (tree_of ts v)
 view_good ts each None b = tt
@@ -48,7 +49,7 @@ module _ (m : NodeMemory) where
 
   -- one tree has one diagram
   pub denotes_once : (a b : Diagram) (t : Tree) → Denotes (trees m) a t → Denotes (trees m) b t → a ≡ b
-  denotes_once a b t x y = seen_told a b (view_told (trees m) memory_each memory_apart (seen a) (seen b) x.within y.within (x.is ∙ sym y.is))
+  denotes_once a b t x y = seen_alike a b (view_told (trees m) memory_each memory_apart (seen a) (seen b) x.within y.within (x.is ∙ sym y.is))
 
   -- the places that a node of the memory names are held
   pub names_held : (k : Node) → NamesBelow (length (trees m)) k → NamesBelow (length (held m.interner)) k

@@ -24,6 +24,7 @@ use Rattle.diagrams.specs.NodeKeys.{Below, tree_of, tree_at, node_tree}
 use Rattle.diagrams.specs.Memory.{trees, places}
 use Rattle.diagrams.specs.Building.{Denotes, Fitting, Joins, Lacks, Made}
 use Rattle.diagrams.specs.Collecting.{Marked, Marks, ClosedFrom, Copied, Moved, blank, copies, marks, moved_as, moves}
+use Rattle.diagrams.proofs.FramesKept.{denotes_kept}
 use Rattle.diagrams.proofs.Built.{build_node, made_one}
 use Rattle.diagrams.proofs.Marks.{apart_ne, copy_at, mark_at}
 use Rattle.diagrams.proofs.Memories.{memory_fits, memory_proper, place_names, place_tree}
@@ -32,12 +33,6 @@ view_kept : (ts ts' : List Tree) → Kept ts ts' → (v : View) → Below (lengt
 view_kept ts ts' kept Never b = (tt, refl)
 view_kept ts ts' kept Always b = (tt, refl)
 view_kept ts ts' kept (Place p) b = (omega (arith, kept.longer), kept.same p none b)
-
--- a diagram keeps its tree where every place does
-pub denotes_kept : (ts ts' : List Tree) → Kept ts ts' → (d : Diagram) (t : Tree) → Denotes ts d t → Denotes ts' d t
-denotes_kept ts ts' kept d t den =
-    let still = view_kept ts ts' kept (seen d) den.within in
-    record { within = still.0; is = still.1 ∙ den.is }
 
 -- a name that is marked has moved with its tree
 pub name_moved : (ts : List Tree) (bs : List Bool) (n : ℕ) (ts' : List Tree) (ms : List Diagram) → Moved ts bs n ts' ms → (d : Diagram) (v : View) → seen d ≡ v → Below n v → Marks bs v → Denotes ts' (moved_as ms d v) (tree_of ts v)

@@ -1,5 +1,5 @@
 -- Nodes can be told by the trees that they stand for: a part is none, always or the tree of one place alone.
-use Rattle.std.specs.Prelude.{◌≡◌, ℕ, zero, suc, ◌≤◌, false, ◌||◌, List, [], ◌++◌, length, ◌≢◌, slice_index_or, refl}
+use Rattle.std.specs.Prelude.{◌≡◌, ℕ, ◌≤◌, false, ◌||◌, List, [], ◌++◌, length, ◌≢◌, slice_index_or, refl}
 use Rattle.std.proofs.Common.{sym, ap, subst, ◌∙◌, ⊎_elim, not-suc-le-zero, arith}
 use mathlib.Core.HLevel.{×_prop}
 use Rattle.std.proofs.Math.Logic.{∥∥₁_elim}
@@ -11,28 +11,13 @@ use Rattle.interning.specs.Interned.{Appended, Placed}
 use Rattle.interning.specs.Places.{Apart, Each}
 use Rattle.interning.proofs.Decode.{rooted_push}
 use Rattle.interning.proofs.Places.{apart_told}
-use Rattle.memos.specs.declared.diagram.Diagram.{Diagram}
+use Rattle.memos.proofs.Diagrams.{seen_alike}
 use Rattle.memos.specs.declared.diagram.View.{View}
 use Rattle.memos.specs.declared.diagram.View.TheVariants.{None, Always, Node as Place}
-use Rattle.memos.specs.Diagrams.{named, seen}
+use Rattle.memos.specs.Diagrams.{seen}
 use Rattle.families.specs.Trees.{Tree, none, always, node, is_none, is_always}
 use Rattle.diagrams.specs.declared.node.Node.{Node}
 use Rattle.diagrams.specs.NodeKeys.{Below, NamesBelow, tree_of, tree_at, node_tree}
-
--- no two names read alike
-named_told : (m n : ℕ) → named m ≡ named n → m ≡ n
-named_told zero zero e = refl
-named_told zero (suc zero) e = let no_way : ◌≡◌ {A = ℕ} 0 1 = cc in absurd (omega arith)
-named_told zero (suc (suc n)) e = let no_way : ◌≡◌ {A = ℕ} 0 1 = cc in absurd (omega arith)
-named_told (suc zero) zero e = let no_way : ◌≡◌ {A = ℕ} 0 1 = cc in absurd (omega arith)
-named_told (suc zero) (suc zero) e = refl
-named_told (suc zero) (suc (suc n)) e = let no_way : ◌≡◌ {A = ℕ} 0 1 = cc in absurd (omega arith)
-named_told (suc (suc m)) zero e = let no_way : ◌≡◌ {A = ℕ} 0 1 = cc in absurd (omega arith)
-named_told (suc (suc m)) (suc zero) e = let no_way : ◌≡◌ {A = ℕ} 0 1 = cc in absurd (omega arith)
-named_told (suc (suc m)) (suc (suc n)) e = let same : m ≡ n = cc in ap (λ k. suc (suc k)) same
-
-pub seen_told : (a b : Diagram) → seen a ≡ seen b → a ≡ b
-seen_told a b e = let same = named_told a.code b.code e in λ i. record { code = same i }
 
 -- neither none nor always
 abbrev pub Nodal : Tree → Type 0
@@ -76,8 +61,8 @@ node_told ts k k' each apart b c e =
     let member : k.member ≡ k'.member = cc in
     let low : tree_at ts k.low ≡ tree_at ts k'.low = cc in
     let high : tree_at ts k.high ≡ tree_at ts k'.high = cc in
-    let same_low = seen_told k.low k'.low (view_told ts each apart _ _ b.0 c.0 low) in
-    let same_high = seen_told k.high k'.high (view_told ts each apart _ _ b.1 c.1 high) in
+    let same_low = seen_alike k.low k'.low (view_told ts each apart _ _ b.0 c.0 low) in
+    let same_high = seen_alike k.high k'.high (view_told ts each apart _ _ b.1 c.1 high) in
     λ i. record { member = member i; low = same_low i; high = same_high i }
 
 pub readable : Readable node_tree NamesBelow Nodal

@@ -16,7 +16,7 @@ pub struct Node {
     pub high: Diagram,
 }
 
-// A diagram's name as a word of a hash.
+// A diagram's name as a word of a hash. By its view, since a diagram gives its number to nobody.
 fn word_of(diagram: Diagram) -> u32
     ensures { result ≡ word (seen diagram) }
 {

@@ -32,7 +32,7 @@ pub(crate) struct Pending {
     pub(crate) frame: Frame,
 }
 
-// What fills the idle places of the stack.
+// What fills the idle places of the stack. By hand, since a question has no default.
 impl Default for Pending {
     fn default() -> Pending {
         Pending {
@@ -46,6 +46,7 @@ impl Default for Pending {
 }
 
 // What is done next: a question is asked, or an answer is taken to the newest open question.
+// An enum and no closure: the open questions lie on a stack of fixed size, and nothing is called back.
 #[derive(Clone, Copy)]
 enum Step {
     Ask(Question),

@@ -13,6 +13,7 @@ mod size;
 #[derive(Clone, Copy, PartialEq, Eq, Debug)]
 pub struct Full;
 
+// The slots are lent, and as many as are used hold keys: nothing here allocates, so they are no vector and no map.
 #[derive(Drop)]
 pub struct Interner<'a, K: Key> {
     slots: &'a mut [Slot<K>],

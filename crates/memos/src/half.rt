@@ -10,6 +10,7 @@ use crate::question::Question;
 use interning::interner::{Full, Interner};
 use interning::slot::Slot;
 
+// That a call leaves the room as it was is a clause of each, since it speaks of two halves, before and after.
 #[derive(Drop)]
 pub(crate) struct Half<'a> {
     interner: Interner<'a, Question>,

@@ -20,6 +20,7 @@ pub trait Memo {
         ensures recalled { Recalled (keeps self.old) (keeps self.new) (notes self.old) (notes self.new) question result };
 
     // Notes the answer to a question; other notes may be lost for it.
+    // Two parameters, as key and value at a map's `insert`: whatever takes both puts them to different uses.
     fn note(&mut self, question: Question, answer: Diagram)
         ensures noted { Noted (keeps self.old) (keeps self.new) (notes self.old) (notes self.new) question answer };
 

@@ -18,7 +18,7 @@ use crate::terms::{TermKey, TermMemory};
 use crate::tokens::{Kind, Token};
 use crate::words::{Head, Word};
 
-// What the reader waits for.
+// What the reader waits for: an enum and no closure, since the definition of the reading names the same stages.
 #[derive(Clone, Copy)]
 pub enum Wants {
     // an item, or the closing bracket of a list that has some

@@ -48,7 +48,7 @@ fn value_of(digits: &[u8]) -> u16
     })
 }
 
-// A text, and how far it has been told.
+// A text, and how far it has been told. The whole text and a place in it, since tokens and faults are told by their places.
 #[derive(Drop)]
 pub struct Scanner<'a> {
     text: &'a [u8],

@@ -6,6 +6,7 @@ use std::alloc::{AllocError, Global};
 use std::collections::BTreeMap;
 use std::{fmt, io};
 
+// No option of the two verdicts: a malformed line is a trouble too.
 #[derive(Clone, Copy)]
 enum Trouble {
     Malformed,

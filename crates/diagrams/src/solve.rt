@@ -25,7 +25,7 @@ pub struct Solved {
     pub opened: u64,
 }
 
-// An open question, and how far it has come.
+// An open question, and how far it has come. Beside `Wait`, whose question is the further one that is waited for.
 #[derive(Clone, Copy)]
 pub(crate) struct Pending {
     pub(crate) question: Question,
@@ -54,6 +54,7 @@ enum Step {
 }
 
 // The work on one question: the memory, the memo, the open questions, and how many were opened.
+// What a call leaves of the borrows and of the memo's claim is a clause of each, since it speaks of a value before and after.
 #[derive(Drop)]
 struct Solver<'n, 'a, 'm, M: Memo> {
     nodes: &'n mut NodeMemory<'a>,

@@ -10,44 +10,22 @@ use std::io;
 use texts::{extended, listed, nested};
 use trials::{Setting, USUAL, show, show_group};
 
-fn rules_of_each_word(rt: &HostRuntime) -> io::Result<()> {
-    show_group(
-        rt,
-        "Rules of each word",
-        &[
-            "1",
-            "least 2 (1 2 3)",
-            "least 2 (1 1 2)",
-            "any(1 all(1 2))",
-            "grid 2 (1 2 3 4)",
-        ],
-    )
-}
+const OF_EACH_WORD: [&str; 5] = [
+    "1",
+    "least 2 (1 2 3)",
+    "least 2 (1 1 2)",
+    "any(1 all(1 2))",
+    "grid 2 (1 2 3 4)",
+];
 
-fn shapes(rt: &HostRuntime) -> io::Result<()> {
-    show_group(
-        rt,
-        "What a word asks of its list",
-        &["least 3 (1 2 3)", "least 4 (1 2 3)", "grid 2 (1 2 3)"],
-    )
-}
+const SHAPES: [&str; 3] = ["least 3 (1 2 3)", "least 4 (1 2 3)", "grid 2 (1 2 3)"];
+
+const DAMAGED: [&str; 6] = ["ring(1 2)", "", "all()", "1 2", "all(1;2)", "all(01 2)"];
 
 fn members(rt: &HostRuntime) -> io::Result<()> {
     rt.println("Members up to n")?;
     show(rt, "all(1 5)", Setting { n: 4, ..USUAL })?;
     show(rt, "all(1 5)", Setting { n: 5, ..USUAL })
-}
-
-fn damaged(rt: &HostRuntime) -> io::Result<()> {
-    show_group(
-        rt,
-        "Damaged rules",
-        &["ring(1 2)", "", "all()", "1 2", "all(1;2)", "all(01 2)"],
-    )
-}
-
-fn touching(rt: &HostRuntime) -> io::Result<()> {
-    show_group(rt, "Letters and digits that touch", &["least2(1 2 3)"])
 }
 
 fn limits(rt: &HostRuntime) -> io::Result<()> {
@@ -83,11 +61,11 @@ fn term_places(rt: &HostRuntime) -> io::Result<()> {
 }
 
 fn run(rt: &HostRuntime) -> io::Result<()> {
-    rules_of_each_word(rt)?;
-    shapes(rt)?;
+    show_group(rt, "Rules of each word", &OF_EACH_WORD)?;
+    show_group(rt, "What a word asks of its list", &SHAPES)?;
     members(rt)?;
-    damaged(rt)?;
-    touching(rt)?;
+    show_group(rt, "Damaged rules", &DAMAGED)?;
+    show_group(rt, "Letters and digits that touch", &["least2(1 2 3)"])?;
     limits(rt)?;
     term_places(rt)
 }

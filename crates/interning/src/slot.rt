@@ -3,7 +3,8 @@
 ghost use Rattle.std.specs.Prelude.{◌≡◌, ◌+◌, ◌^◌, ◌<◌};
 ghost use Rattle.interning.specs.Link.{after};
 
-// A place, or none. A number and no option: with links of eight bytes a table of 65,536 keys took up to 1.2 times as long (benchmark/src/bin/layouts.rs).
+// A place, or none. A number and no option: with links of eight bytes a table of 65,536 keys took up to 1.2 times as long
+// (benchmark/src/bin/layouts.rs), and the engine over it is to take no longer than the plain one, whose node is one word.
 #[derive(Clone, Copy)]
 pub struct Link {
     past: u32,

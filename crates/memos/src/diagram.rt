@@ -1,6 +1,7 @@
 //! A diagram by its name: none, always, or a place of a node memory.
 //! The name is one number of four bytes; `seen` reads it, and no two names read alike. A number and no enum: with names of
-//! eight bytes a table of 65,536 nodes and questions took 1.1 to 1.3 times as long (benchmark/src/bin/layouts.rs).
+//! eight bytes a table of 65,536 nodes and questions took 1.1 to 1.3 times as long (benchmark/src/bin/layouts.rs), and the
+//! engine over it is to take no longer than the plain one, whose node is one word.
 ghost use Rattle.std.specs.Prelude.{◌≡◌, ◌+◌, ◌^◌, ◌≤◌, MatchOption};
 ghost use Rattle.memos.specs.Diagrams.{seen};
 

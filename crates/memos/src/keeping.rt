@@ -23,7 +23,7 @@ pub struct Places<'a> {
     answers: &'a mut [Diagram],
 }
 
-// The half that takes new notes.
+// The half that takes new notes. An enum and no index: the halves are two fields, since a note is tried in both at once.
 #[derive(Clone, Copy)]
 enum Current {
     First,

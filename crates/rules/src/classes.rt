@@ -15,7 +15,7 @@ pub enum Class {
     Other,
 }
 
-// The class of each byte.
+// The class of each byte: one constant table, as the language has one.
 const CLASSES: [Class; 256] = [
     Other, Other, Other, Other, Other, Other, Other, Other, Other, Blank, Blank, Other, Other,
     Blank, Other, Other, Other, Other, Other, Other, Other, Other, Other, Other, Other, Other,

@@ -1,5 +1,6 @@
 //! The terms that a list expands to, made in the memory from the places of its items.
 //! `least k` comes from a table with a row for the items from one on and a cell for each count.
+//! What a call makes is said of the terms that stand at its places, whichever they are: a place alone means none.
 //! A cell is made only where `least k` passes through it, so nothing but terms in the result is put in.
 ghost use Rattle.std.specs.Prelude.{◌≡◌, suc, ◌+◌, ◌*◌, ◌/◌, ◌%◌, ◌<◌, ◌≤◌, true, List, ◌∷◌, length, take, drop};
 ghost use Rattle.rules.specs.Building.{AllAt, Makes};

@@ -1,4 +1,6 @@
 //! The reading of a rule's text: let in, with its terms in the memory, or denied with the first fault.
+//! Text, members and memory are what `read` is called with, and stay its parameters in its two steps; that the memory's room stays
+//! is a clause of each, since it speaks of the memory before and after.
 ghost use Rattle.std.specs.Prelude.{◌≡◌};
 ghost use Rattle.rules.specs.Building.{empty};
 ghost use Rattle.rules.specs.Memory.{view};

@@ -137,6 +137,8 @@ pub struct Reader<'m, 'a> {
     pub(crate) n: u8,
 }
 
+// That some open lists of the definition are followed is asked of each call that takes an item, and is no fact of every reader:
+// after a word it waits for something else.
 impl<'m, 'a> Reader<'m, 'a> {
     // A closing bracket where an item is wanted.
     fn at_close(&mut self, place: usize) -> Result<Wants, RuleFault>

@@ -14,6 +14,7 @@ pub enum Word {
 // What a list asks of its items: its word with the figure that follows it.
 #[derive(Clone, Copy, PartialEq, Eq, Default)]
 pub enum Head {
+    // also what fills idle places
     #[default]
     All,
     Any,

@@ -21,7 +21,7 @@ pub(super) struct Branch {
     pub(super) gathered: u64,
 }
 
-// The whole of no diagram. By hand, since a diagram has no default.
+// What fills idle places. By hand: by a derive, none would be the default of every diagram.
 impl Default for Branch {
     fn default() -> Branch {
         Branch {

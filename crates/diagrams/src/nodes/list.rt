@@ -33,6 +33,7 @@ impl<'a> NodeMemory<'a> {
             View::Always => Some(0),
             View::Node(place) => {
                 let (node, weight) = self.weighed(place)?;
+                // not by `or_else`: the descent's end is not seen through a closure
                 match self.first_below(node.high, limit.saturating_sub(weight)) {
                     Some(group) => Some(weight + group),
                     None => self.first_below(node.low, limit),

@@ -1,5 +1,6 @@
 //! Marking: from the newest place down, each marked node marks its two parts, which stand before it.
 //! So one pass suffices: what is marked is reached by a root, and the parts of what is marked are marked.
+//! Memory and cells are no struct: the cells are lent for one call, and each clause says what they hold of the memory as it is then.
 ghost use Rattle.std.specs.Prelude.{◌≡◌, ℕ, ◌≤◌, List, length, slice_index_or, None};
 ghost use Rattle.interning.specs.Model.{held};
 ghost use Rattle.memos.specs.declared.diagram.Diagram.{Diagram};

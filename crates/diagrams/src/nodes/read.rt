@@ -1,5 +1,6 @@
 //! Reading a diagram: its node, its top member, its parts at a member, and whether two diagrams are one.
 //! What stands at a place is what its node means over the places before it.
+//! A clause says what holds of the trees that a diagram denotes, whichever they are: a diagram alone denotes none.
 ghost use Rattle.std.specs.Prelude.{◌≡◌, ◌<◌, length, Decides};
 ghost use Rattle.interning.specs.Model.{held};
 ghost use Rattle.interning.specs.Places.{Stands};

@@ -119,6 +119,7 @@ impl Memo for KeepingMemo<'_> {
         ensures recalled { Recalled (self.old.whole ≡ true) (self.new.whole ≡ true) (memo_notes self.old) (memo_notes self.new) question result }
         ensures told { Told (Unit {0}) (memo_notes self.old) question result }
     {
+        // Not by `or_else`: what its closure recalls is known only by a clause on the closure, which is longer.
         match self.first.recall(question) {
             Some(answer) => Some(answer),
             None => self.second.recall(question),

@@ -62,7 +62,7 @@ impl<'a> TermMemory<'a> {
         }
     }
 
-    // The place of the term that a key stands for, which is put in if it is not held; any place once the memory is overfull.
+    // The place of the term that a key stands for, which is put in if it is not held; any place, 0, once the memory is overfull.
     pub(crate) fn put(&mut self, key: TermKey) -> u32
         ensures { (t : Term) → KeyOf (view self.old) key t → Makes (view self.old) (view self.new) result t }
     {

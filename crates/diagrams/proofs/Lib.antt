@@ -28,3 +28,4 @@ pub mod Tallying
 pub mod Recalling
 pub mod Merely
 pub mod Ending
+pub mod Engines

@@ -11,3 +11,4 @@ pub mod Frames
 pub mod Stacks
 pub mod Walking
 pub mod Solving
+pub mod Engines

@@ -2,6 +2,9 @@
 #![tactic(auto)]
 
 mod frames;
+pub mod engine;
 pub mod node;
 pub mod nodes;
 pub mod solve;
+#[cfg(test)]
+mod tests;

@@ -55,5 +55,5 @@ impl Cell {
 }
 
 // Fewer cells than nodes are lent.
-#[derive(Clone, Copy)]
+#[derive(Clone, Copy, PartialEq, Eq, Debug)]
 pub struct TooFewCells;

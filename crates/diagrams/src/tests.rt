@@ -41,7 +41,11 @@ fn majority_of_three_stops_itself(rt: HostRuntime) -> Result<(), Fail> {
     assert!(rt; worked(&mut engine, Question::Less(majority, majority)) == Some(Diagram::none()));
     assert!(rt; engine.nodes().count(majority, &mut [0; 32]) == Ok(3));
     let mut roots = [majority];
-    assert!(rt; engine.throw_out(&mut roots, &mut [Cell::blank(); 32]).is_ok());
+    assert!(rt;
+        engine
+            .throw_out(&mut roots, &mut [Cell::blank(); 32])
+            .is_ok()
+    );
     assert!(rt; engine.nodes().len() == 4);
     assert!(rt; worked(&mut engine, Question::Turn(roots[0])) == Some(roots[0]));
     Ok(())

@@ -55,7 +55,11 @@ impl<'a, M: Memo + Drop> Engine<'a, M> {
 
     // Throws out what no root reaches and moves the roots, and forgets the notes, which may name what is gone.
     // Refused where fewer cells than nodes are lent.
-    pub fn throw_out(&mut self, roots: &mut [Diagram], cells: &mut [Cell]) -> Result<(), TooFewCells>
+    pub fn throw_out(
+        &mut self,
+        roots: &mut [Diagram],
+        cells: &mut [Cell],
+    ) -> Result<(), TooFewCells>
         ensures thrown_out { ThrownOut (length cells.old) (trees self.old.nodes) roots.old (trees self.new.nodes) roots.new result }
         ensures forgets { Forgets (M.Memo.notes self.old.memo) (M.Memo.notes self.new.memo) result }
         ensures same { SameMemory self.old.nodes self.new.nodes }

@@ -1,4 +1,4 @@
-//! The lines of the press.
+//! The lines of the press. Heap and text are two parameters, as in the kit's own functions.
 ghost use Rattle.std.specs.Prelude.{◌≡◌, IfOk, Ok};
 ghost use Rattle.hex.specs.Hex.{decode_of};
 

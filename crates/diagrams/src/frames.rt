@@ -32,7 +32,7 @@ pub struct Halves {
 }
 
 // An open question by the answer that it waits for, with the parts of its operands and the answers that it still needs.
-// A variant's name says the kind of question, or the parts that the answer is on.
+// A variant's name says the kind of question, or the parts that the answer is on. An enum and no closure, since frames lie on a stack of fixed size.
 // Each names its member and answers itself: a struct for the pair would make every place that takes one longer.
 #[derive(Clone, Copy)]
 pub enum Frame {

@@ -1,4 +1,4 @@
-//! Texts that are too long to write out.
+//! Texts that are too long to write out. Heap and text are two parameters, as in the kit's own functions.
 ghost use Rattle.std.specs.Prelude.{◌≡◌, ◌+◌, ◌*◌, max, length, IfOk, string_len};
 
 use std::alloc::{AllocError, Global};

@@ -26,7 +26,7 @@ impl Key for Question {
 
     ghost marked = { λ x y e. let same : x ≡ y = Prim.search rules in ap question_mark same };
 
-    // The kinds have their numbers here alone.
+    // The definition of the hash fixes the numbers of the kinds; no other code has them.
     fn hash(&self) -> u32 {
         let (kind, left, right) = match *self {
             Question::Either(f, g) => (0, f.code, g.code),

@@ -27,7 +27,7 @@ impl Key for TermKey {
 
     ghost marked = { Prim.search rules };
 
-    // The kinds have their numbers here alone.
+    // The definition of the hash fixes the numbers of the kinds; no other code has them.
     fn hash(&self) -> u32 {
         match *self {
             TermKey::Member(v) => finish(mix(0, u32::from(v))),

@@ -1,4 +1,5 @@
 //! What is seen of a question of each kind, by what its operands are.
+//! Two operands stay two parameters, here and where a question is begun: each kind does another thing with them.
 ghost use Rattle.std.specs.Option.{option_map};
 ghost use Rattle.families.specs.Trees.{Tree};
 ghost use Rattle.families.specs.Questions.{sight as seeing, either, both, less, turn, off, on};

@@ -13,7 +13,7 @@ import re
 import sys
 
 FOLDER = pathlib.Path(sys.argv[1] if len(sys.argv) > 1 else ".")
-CRATES = ["interning", "families", "rules", "memos", "diagrams", "calls", "examples", "conformance"]
+CRATES = ["interning", "families", "rules", "memos", "diagrams", "calls", "quorums", "examples", "conformance"]
 
 
 class Function:

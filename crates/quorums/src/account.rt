@@ -1,6 +1,7 @@
 //! What is said of a rule: its smallest passing and stopping groups, and its verdict.
 use crate::family::{family, worked};
 use crate::group::Group;
+use crate::verdict::Verdict;
 use diagrams::engine::Engine;
 use diagrams::node::Node;
 use diagrams::nodes::NodeMemory;
@@ -34,21 +35,26 @@ fn groups<M: Memo + Drop>(
     Ok(text)
 }
 
-// What can be said of a family and the groups that stop it.
-fn verdict<M: Memo + Drop>(
+// What is said of the rule whose term stands at a place, or none where the places don't do.
+fn account<M: Memo + Drop>(
+    heap: Global,
     engine: &mut Engine<'_, M>,
-    passing: Diagram,
-    stopping: Diagram,
-) -> &'static str {
-    let clash = worked(engine, Question::Less(passing, stopping));
-    if clash != Some(Diagram::none()) {
-        return "two groups share no member";
-    }
-    let witness = worked(engine, Question::Less(stopping, passing));
-    if witness != Some(Diagram::none()) {
-        return "dominated";
-    }
-    "nondominated"
+    terms: &TermMemory<'_>,
+    place: u32,
+) -> Result<Option<String>, AllocError> {
+    let Some(passing) = family(heap, engine, terms, place)? else {
+        return Ok(None);
+    };
+    let Some(stopping) = worked(engine, Question::Turn(passing)) else {
+        return Ok(None);
+    };
+    let Some(verdict) = Verdict::of(engine, passing, stopping) else {
+        return Ok(None);
+    };
+    let passes = groups(heap, engine, passing)?;
+    let stops = groups(heap, engine, stopping)?;
+    let text = format!(in heap; "{verdict}\n  passing: {passes}\n  stopping:{stops}")?;
+    Ok(Some(text))
 }
 
 // Reads a rule, and prints what is said of it.
@@ -56,9 +62,6 @@ pub(crate) fn show(rt: &HostRuntime, text: &str) -> io::Result<()> {
     let heap = rt.alloc();
     let mut slots = vec![in heap; Slot::blank(TermKey::Member(0)); PLACES]?;
     let mut terms = TermMemory::open(&mut slots);
-    let Ok(place) = read(text.as_bytes(), 48, &mut terms) else {
-        return println!(rt; "{text}: denied");
-    };
     let blank = Node {
         member: 0,
         low: Diagram::none(),
@@ -66,16 +69,11 @@ pub(crate) fn show(rt: &HostRuntime, text: &str) -> io::Result<()> {
     };
     let mut nodes = vec![in heap; Slot::blank(blank); PLACES]?;
     let mut engine = Engine::open(NodeMemory::open(&mut nodes), ShortMemo::new());
-    let Some(passing) = family(heap, &mut engine, &terms, place)? else {
-        return println!(rt; "{text}: too many nodes");
-    };
-    let Some(stopping) = worked(&mut engine, Question::Turn(passing)) else {
-        return println!(rt; "{text}: too many nodes");
-    };
-    let verdict = verdict(&mut engine, passing, stopping);
-    let passes = groups(heap, &engine, passing)?;
-    let stops = groups(heap, &engine, stopping)?;
-    println!(rt; "{text}: {verdict}")?;
-    println!(rt; "  passing: {passes}")?;
-    println!(rt; "  stopping:{stops}")
+    match read(text.as_bytes(), 48, &mut terms) {
+        Ok(place) => match account(heap, &mut engine, &terms, place)? {
+            Some(account) => println!(rt; "{text}: {account}"),
+            None => println!(rt; "{text}: more nodes than {PLACES}"),
+        },
+        Err(fault) => println!(rt; "{text}: {fault}"),
+    }
 }

@@ -14,6 +14,11 @@ pub(crate) fn worked<M: Memo + Drop>(
     engine.ask(question).ok()?.answer.ok()
 }
 
+// The diagram of the term at a place.
+fn at(diagrams: &[Diagram], place: u32) -> Option<Diagram> {
+    diagrams.get(place as usize).copied()
+}
+
 // The diagram of a term, from those of the terms before it.
 fn term<M: Memo + Drop>(
     engine: &mut Engine<'_, M>,
@@ -23,14 +28,12 @@ fn term<M: Memo + Drop>(
     match key {
         TermKey::Member(v) => engine.single(v).ok(),
         TermKey::Both(a, b) => {
-            let f = *earlier.get(a as usize)?;
-            let g = *earlier.get(b as usize)?;
-            worked(engine, Question::Both(f, g))
+            let question = Question::Both(at(earlier, a)?, at(earlier, b)?);
+            worked(engine, question)
         }
         TermKey::Either(a, b) => {
-            let f = *earlier.get(a as usize)?;
-            let g = *earlier.get(b as usize)?;
-            worked(engine, Question::Either(f, g))
+            let question = Question::Either(at(earlier, a)?, at(earlier, b)?);
+            worked(engine, question)
         }
     }
 }
@@ -52,5 +55,5 @@ pub(crate) fn family<M: Memo + Drop>(
         };
         diagrams.push(diagram)?;
     }
-    Ok(diagrams.get(place as usize).copied())
+    Ok(at(&diagrams, place))
 }

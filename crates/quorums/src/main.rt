@@ -5,6 +5,7 @@
 mod account;
 mod family;
 mod group;
+mod verdict;
 
 use account::show;
 use std::io;

@@ -46,6 +46,7 @@ pub(crate) fn family<M: Memo + Drop>(
     place: u32,
 ) -> Result<Option<Diagram>, AllocError> {
     let mut diagrams = Vec::new(heap);
+    // By place, since the memory gives its terms one at a time.
     for earlier in 0..terms.len() {
         let Some(key) = terms.key_at(earlier) else {
             return Ok(None);

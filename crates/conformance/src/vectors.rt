@@ -33,11 +33,16 @@ pub struct Vector {
     pub told: Verdict,
 }
 
-// The bytes that a text spells in hex, with small letters alone; there is at least one.
+// Whether a byte is a digit of hex, with small letters alone.
+fn is_digit(byte: &u8) -> bool {
+    matches!(*byte, b'0'..=b'9' | b'a'..=b'f')
+}
+
+// The bytes that a text spells in hex; there is at least one. The digits are looked at first, so that a malformed text takes no memory.
 fn spelt(heap: Global, text: &str) -> Result<Vec<u8>, LineError>
     ensures { IfOk result (λ bytes. decode_of text.now ≡ Ok bytes.items) }
 {
-    if text.is_empty() || text.as_bytes().iter().any(u8::is_ascii_uppercase) {
+    if text.is_empty() || !text.as_bytes().iter().all(is_digit) {
         return Err(LineError::Malformed);
     }
     Ok(decode(heap, text)?)

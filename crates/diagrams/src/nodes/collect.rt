@@ -38,6 +38,8 @@ impl<'a> NodeMemory<'a> {
         if cells.len() < self.len() as usize {
             return Err(TooFewCells);
         }
+        // a cell for each node; any more that are lent stay as they are
+        let cells = &mut cells[..self.len() as usize];
         self.mark(roots, cells);
         self.refill(cells);
         move_roots(roots, cells);

@@ -48,6 +48,9 @@ impl<'a> NodeMemory<'a> {
         ensures { (t : Tree) → Denotes (trees self.now) diagram t → Listed (page limit (length buffer.old / 8) (groups t)) buffer.old buffer.new result }
     {
         let room = buffer.len() / 8;
+        if room == 0 {
+            return 0;
+        }
         // counted by hand: with the cells of `chunks_exact_mut` no proof knows what they left in the buffer
         let mut count = 0;
         let mut later = ArrayVec::<Branch, 48>::new();

@@ -20,3 +20,4 @@ pub mod Progress
 pub mod Following
 pub mod Readers
 pub mod Outcome
+pub mod Nests

@@ -7,10 +7,10 @@ ghost use Rattle.rules.specs.Memory.{view};
 ghost use Rattle.rules.specs.Outcome.{outcome, Comes, Left, ReadOff};
 
 use crate::faults::RuleFault;
+use crate::nest::Nest;
 use crate::reader::{Reader, Wants};
 use crate::scanner::Scanner;
 use crate::terms::TermMemory;
-use arrayvec::ArrayVec;
 
 // A rule's text has at most as many bytes.
 pub const LONGEST: usize = 4096;
@@ -23,7 +23,7 @@ fn read_tokens(text: &[u8], n: u8, terms: &mut TermMemory<'_>) -> Result<u32, Ru
 {
     // built in place, so that what it leaves in the memory is known
     let mut reader = Reader {
-        nest: ArrayVec::new(),
+        nest: Nest::new(),
         wants: Wants::Item,
         terms,
         n,

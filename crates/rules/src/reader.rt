@@ -13,7 +13,7 @@ ghost use Rattle.rules.specs.Reading.{State, Frame, wants_item, wants_figure, wa
 ghost use Rattle.rules.specs.Spelling.{Figure};
 
 use crate::faults::RuleFault;
-use crate::nest::{Nest, OpenList};
+use crate::nest::{DEPTH, Nest};
 use crate::terms::{TermKey, TermMemory};
 use crate::tokens::{Kind, Token};
 use crate::words::{Head, Word};
@@ -97,21 +97,14 @@ fn at_bracket(nest: &mut Nest, token: Token, head: Head) -> Result<Wants, RuleFa
     let place = token.place;
     match token.kind {
         Kind::Open => {
-            if nest.is_full() {
+            if nest.depth() >= DEPTH {
                 return Err(RuleFault::Depth(place));
             }
-            nest.push(OpenList::new(head));
+            nest.open(head);
             Ok(Wants::Item)
         }
         _ => Err(RuleFault::Token(place)),
     }
-}
-
-// Whether the innermost list has no room for another item.
-fn is_crowded(nest: &Nest) -> bool
-    ensures { result ≡ crowded (levels nest.now) }
-{
-    nest.last().is_some_and(|list| list.places.is_full())
 }
 
 // An item ends: it joins the innermost open list, or is the whole rule.
@@ -119,13 +112,11 @@ fn join(nest: &mut Nest, item: u32) -> Wants
     requires { crowded (levels nest.old) ≡ false }
     ensures { Joined item (levels nest.old) result (levels nest.new) }
 {
-    match nest.last_mut() {
-        Some(list) => {
-            list.places.push(item);
-            Wants::Item
-        }
-        None => Wants::Nothing(item),
+    if nest.depth() == 0 {
+        return Wants::Nothing(item);
     }
+    nest.add(item);
+    Wants::Item
 }
 
 // Reads the tokens of one text, over members up to n: the open lists, what is wanted next, and the memory of the terms made so far.
@@ -146,7 +137,7 @@ impl<'m, 'a> Reader<'m, 'a> {
         ensures steps { (fs : List Frame) → ReaderAtItem self.old fs → ReaderSteps self.new result (closes place fs) }
         ensures same { SameReader self.old self.new }
     {
-        let Some(list) = self.nest.pop() else {
+        let Some(list) = self.nest.close() else {
             return Err(RuleFault::Token(place));
         };
         if list.places.is_empty() {
@@ -166,7 +157,7 @@ impl<'m, 'a> Reader<'m, 'a> {
         ensures same { SameReader self.old self.new }
     {
         let member = in_range(value, self.n).ok_or(RuleFault::Range(place))?;
-        if is_crowded(&self.nest) {
+        if self.nest.is_crowded() {
             return Err(RuleFault::Shape(place));
         }
         let item = self.terms.put(TermKey::Member(member));
@@ -183,7 +174,7 @@ impl<'m, 'a> Reader<'m, 'a> {
         match token.kind {
             Kind::Number(value) => self.at_number(place, value),
             Kind::Word(word) => {
-                if is_crowded(&self.nest) {
+                if self.nest.is_crowded() {
                     return Err(RuleFault::Shape(place));
                 }
                 Ok(Wants::from(word))

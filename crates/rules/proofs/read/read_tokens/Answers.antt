@@ -1,4 +1,4 @@
-use Rattle.std.proofs.Common.{◌≡◌, [], length, reverse, Ok, Err, sym, refl, ap, ◌∙◌, subst, rules}
+use Rattle.std.proofs.Common.{◌≡◌, [], length, Ok, Err, sym, refl, ap, ◌∙◌, subst, rules}
 use Rattle.std.proofs.lemmas.Result.{err_from_is_err_and}
 use Rattle.rules.specs.Building.{Held}
 use Rattle.rules.specs.Following.{AtItem}
@@ -20,7 +20,7 @@ loop-lexeme-init c =
       onward = record {
         state = start;
         follows =
-            subst (λ ls. AtItem c.args.n h ls []) (sym (ap reverse c.new.ensures))
+            subst (λ ls. AtItem c.args.n h ls []) (sym c.new.ensures)
             (start_follows c.args.n h (ap (λ (x : Held). x.terms) c.requires) (ap (λ (x : Held). x.over) c.requires));
         gives = ap (run c.args.n (length c.args.text.now) (Ok start)) whole;
       };

@@ -40,6 +40,7 @@ impl Nest {
     {
         let list = self.lists.pop()?;
         let mut places = Places::new();
+        // a list has no more items than fit
         let _ = places.try_extend_from_slice(&self.row[list.first..]);
         self.row.truncate(list.first);
         Some(OpenList {
